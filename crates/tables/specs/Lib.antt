@@ -1,0 +1,10 @@
+pub mod Sequences
+pub mod Row
+pub mod Table
+pub mod Refusal
+pub mod Part
+pub mod Exact
+pub mod Figures
+pub mod Fit
+pub mod Fill
+pub mod Roll

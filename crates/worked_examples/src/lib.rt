@@ -1,0 +1,3 @@
+// Worked examples, run over the table call.
+#[cfg(test)]
+mod tests;
