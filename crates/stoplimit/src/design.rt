@@ -13,6 +13,7 @@ use crate::caught::count_caught;
 use crate::scan::least_fit;
 use crate::totals::whole;
 use charts::Chart;
+use tables::ROW_CELLS;
 use tables::Row;
 use weights::Cost;
 use weights::CostSemiring;
@@ -37,8 +38,8 @@ fn mildest_cost<C: Chart>(chart: &C, limit: u32, bed: &Bed) -> Option<u64>
     requires { ⌜ 0 < C·Chart .meaning (now chart) .count limit ⌝ }
     ensures { λ r. ⌜ r ≡ mildest (C·Chart .meaning (now (chart .entry))) (requirements (now (bed .entry))) limit ⌝ }
 {
-    let mut front = [Cost { value: 0 }; 1024];
-    let mut back = [Cost { value: 0 }; 1024];
+    let mut front = [Cost { value: 0 }; ROW_CELLS];
+    let mut back = [Cost { value: 0 }; ROW_CELLS];
     let mut first = Row::new(&mut front);
     let mut second = Row::new(&mut back);
     cost_caught(
@@ -80,8 +81,8 @@ pub(crate) fn least_design<C: Chart>(chart: &C, bed: &Bed) -> Option<Design>
         (None-fit (C·Chart .meaning (now (chart .entry))) (requirements (now (bed .entry))))
         (λ d. Designed (C·Chart .meaning (now (chart .entry))) (requirements (now (bed .entry))) d) ⌝ }
 {
-    let mut front = [Count { value: 0 }; 1024];
-    let mut back = [Count { value: 0 }; 1024];
+    let mut front = [Count { value: 0 }; ROW_CELLS];
+    let mut back = [Count { value: 0 }; ROW_CELLS];
     let mut first = Row::new(&mut front);
     let mut second = Row::new(&mut back);
     match least_fit(chart, bed, &mut first, &mut second) {

@@ -15,6 +15,9 @@ use design::least_design;
 use std::io;
 use worked::worked;
 
+// The number of the refusal where no limit of the range is fit.
+const NO_FIT_LIMIT: u32 = 15;
+
 fn print(rt: &LibcRuntime, design: Design) -> io::Result<()> {
     println!(rt, "(limit {})", design.limit)?;
     println!(rt, "(good {} {})", design.good, design.good_total)?;
@@ -29,13 +32,12 @@ fn main(rt: LibcRuntime) -> io::Result<()> {
     let mut values = [0; 16];
     values[0] = -1;
     values[2] = 1;
-    let Ok(scores) = Scores::new(values) else {
-        return println!(rt, "(refused 23 0)");
+    let scores = match Scores::new(values) {
+        Ok(scores) => scores,
+        Err(refusal) => return println!(rt, "(refused {} 0)", refusal.number()),
     };
-    let chart = Cusum::new(scores);
-    let bed = worked();
-    match least_design(&chart, &bed) {
+    match least_design(&Cusum::new(scores), &worked()) {
         Some(design) => print(&rt, design),
-        None => println!(rt, "(refused 15 0)"),
+        None => println!(rt, "(refused {NO_FIT_LIMIT} 0)"),
     }
 }

@@ -12,5 +12,6 @@ pub use refusal::RefusalDebug;
 pub use refusal::RefusalEq;
 pub use refusal::RefusalPartialEq;
 pub use row::Row;
+pub use table::ROW_CELLS;
 pub use table::Table;
 pub use table::tabulate;

@@ -18,7 +18,8 @@ const MAX_WEIGHTS: usize = 16;
 
 const MAX_COURSES: u32 = 40;
 
-const ROW_CELLS: usize = 1024;
+// How many cells a row must have: as many as a chart can have states.
+pub const ROW_CELLS: usize = 1024;
 
 // What the table call answers: the caught value, the state count, and the side, 0 or 1, whose row
 // holds the table.

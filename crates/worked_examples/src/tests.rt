@@ -6,6 +6,7 @@ use charts::CusumChart;
 use charts::RefusalDebug as ChartsRefusalDebug;
 use charts::Scores;
 use std::test::*;
+use tables::ROW_CELLS;
 use tables::Refusal;
 use tables::RefusalDebug;
 use tables::RefusalPartialEq;
@@ -86,24 +87,24 @@ fn count<C: Chart, S: Semiring>(
 fn counts(limit: u32, weights: [u64; 3], courses: u32) -> Result<(u64, u64), Fail> {
     let [a, b, c] = weights;
     let weights = [Count { value: a }, Count { value: b }, Count { value: c }];
-    let mut first = [Count { value: 0 }; 1024];
-    let mut second = [Count { value: 0 }; 1024];
+    let mut first = [Count { value: 0 }; ROW_CELLS];
+    let mut second = [Count { value: 0 }; ROW_CELLS];
     let (caught, unstopped) = count(&cusum()?, limit, &weights, courses, &mut first, &mut second)?;
     Ok((caught.value, unstopped.value))
 }
 
 fn mildest(limit: u32) -> Result<u64, Fail> {
     let weights = [Cost { value: 0 }, Cost { value: 1 }, Cost { value: 3 }];
-    let mut first = [Cost { value: 0 }; 1024];
-    let mut second = [Cost { value: 0 }; 1024];
+    let mut first = [Cost { value: 0 }; ROW_CELLS];
+    let mut second = [Cost { value: 0 }; ROW_CELLS];
     let (caught, _) = count(&cusum()?, limit, &weights, 2, &mut first, &mut second)?;
     Ok(caught.value)
 }
 
 fn can_stop(limit: u32) -> Result<bool, Fail> {
     let weights = [Can { value: true }; 3];
-    let mut first = [Can { value: false }; 1024];
-    let mut second = [Can { value: false }; 1024];
+    let mut first = [Can { value: false }; ROW_CELLS];
+    let mut second = [Can { value: false }; ROW_CELLS];
     let (caught, _) = count(&cusum()?, limit, &weights, 2, &mut first, &mut second)?;
     Ok(caught.value)
 }
@@ -131,7 +132,7 @@ fn refusal(
     cells: usize,
 ) -> Result<Option<Refusal>, Fail> {
     let mut first = [Count { value: 7 }; 2048];
-    let mut second = [Count { value: 7 }; 1024];
+    let mut second = [Count { value: 7 }; ROW_CELLS];
     let short = cells.min(2048);
     match count(
         &cusum()?,
@@ -181,8 +182,8 @@ fn refusals_in_their_order() -> Result<(), Fail> {
 fn scores_out_of_range() -> Result<(), Fail> {
     check(Scores::new([8; 16]).is_ok())?;
     check(Scores::new([-8; 16]).is_ok())?;
-    check(Scores::new([9; 16]).is_err())?;
-    check(Scores::new([-9; 16]).is_err())
+    check_eq(Scores::new([9; 16]).err().ok_or("taken")?.number(), 23)?;
+    check_eq(Scores::new([-9; 16]).err().ok_or("taken")?.number(), 23)
 }
 
 // No course: one at the start, and nothing is stopped.
