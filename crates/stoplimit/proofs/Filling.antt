@@ -1,11 +1,10 @@
 -- Filling a list of 16 from the front.
-use borrow.Author.Count.{below-more}
 use mathlib.Core.Path.{_≡_, refl, ap, sym, _∙_}
 use mathlib.Core.List.{List, [], _∷_}
-use Prim.Native.Nat.{ℕ, zero, suc, _+_, _<_, _≤_}
+use Prim.Native.Nat.{ℕ, zero, suc, _<_, _≤_}
 use native.Mathlib.Omega.{arith}
-use lib.ListN.{getD, length, take, set}
-use Rattle.std.proofs.shelf.Lists.{length-set, length-take-le, getD-set-same, getD-set-other, getD-take, ext-getD}
+use lib.ListN.{getD, length, take}
+use Rattle.std.proofs.shelf.Lists.{length-take-le, getD-take, ext-getD}
 use Rattle.weights.specs.Kinds.{costs}
 use Rattle.tables.specs.Figures.{cost-weight, cost-weights}
 
@@ -13,14 +12,6 @@ abbrev pub Filled : {X : Type 0} → X → (ℕ → X) → ℕ → List X → Ty
 Filled d f i list = (length list ≡ 16) × ((k : ℕ) → k < i → getD list k d ≡ f k)
 
 module _ {X : Type 0} (d : X) (f : ℕ → X) where
-  pub filled-more : (i : ℕ) (list : List X) (v : X) → Filled d f i list → i < 16 → v ≡ f i → Filled d f (i + 1) (set list i v)
-  filled-more i list v so within is = (
-    length-set list i v ∙ so .0,
-    below-more (λ k. getD (set list i v) k d ≡ f k) i
-        (λ k h. getD-set-other list i k v d (omega arith) ∙ so .1 k h)
-        (getD-set-same list i v d (omega arith) ∙ is),
-  )
-
   pub filled-all : (n i : ℕ) (list target : List X) → Filled d f i list → i ≡ n → n ≤ 16 → length target ≡ n → ((k : ℕ) → k < n → getD target k d ≡ f k) → take n list ≡ target
   filled-all n i list target so last few long at =
       let size : length (take n list) ≡ n = length-take-le n list (omega arith) in

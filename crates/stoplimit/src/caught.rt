@@ -99,7 +99,8 @@ pub(crate) fn cost_caught<C: Chart>(
     requires alike { ⌜ length (now costs) ≡ length (now weights) ⌝ }
     requires courses { ⌜ courses ≤ 40 ⌝ }
     requires room { ⌜ (1024 ≤ length (held (now first))) × (1024 ≤ length (held (now second))) ⌝ }
-    ensures { λ r. ⌜ r ≡ present-cost (caught-from cost-kind (C·Chart .meaning (now (chart .entry)) .moves) limit (C·Chart .meaning (now (chart .entry)) .moves .start limit) (cost-weights (now (weights .entry)) (now (costs .entry))) courses) ⌝ }
+    ensures value { λ r. ⌜ r ≡ present-cost (caught-from cost-kind (C·Chart .meaning (now (chart .entry)) .moves) limit (C·Chart .meaning (now (chart .entry)) .moves .start limit) (cost-weights (now (weights .entry)) (now (costs .entry))) courses) ⌝ }
+    ensures rows { λ _. ⌜ Lasting (now (first .entry)) (now (first .exit)) × Lasting (now (second .entry)) (now (second .exit)) ⌝ }
 {
     let list = cost_list(weights, costs);
     present(caught(

@@ -6,7 +6,7 @@ ghost use Rattle.std.specs.Options.{Cases as BySome};
 ghost use Rattle.stoplimit.specs.Bed.{requirements, Figured, Designed};
 ghost use Rattle.tables.specs.Figures.{mildest};
 ghost use Rattle.tables.specs.Fit.{None-fit};
-ghost use Rattle.tables.specs.Row.{held};
+ghost use Rattle.tables.specs.Row.{held, Lasting};
 use crate::bed::Bed;
 use crate::caught::cost_caught;
 use crate::caught::count_caught;
@@ -63,7 +63,8 @@ fn figures<C: Chart>(
 ) -> Design
     requires states { ⌜ 0 < C·Chart .meaning (now chart) .count limit ⌝ }
     requires room { ⌜ (1024 ≤ length (held (now first))) × (1024 ≤ length (held (now second))) ⌝ }
-    ensures { λ r. ⌜ Figured (C·Chart .meaning (now (chart .entry))) (requirements (now (bed .entry))) limit r ⌝ }
+    ensures value { λ r. ⌜ Figured (C·Chart .meaning (now (chart .entry))) (requirements (now (bed .entry))) limit r ⌝ }
+    ensures rows { λ _. ⌜ Lasting (now (first .entry)) (now (first .exit)) × Lasting (now (second .entry)) (now (second .exit)) ⌝ }
 {
     Design {
         limit,

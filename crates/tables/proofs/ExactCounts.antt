@@ -1,8 +1,8 @@
 -- Counts modulo 2^64 are exact where the total weight is small.
-use mathlib.Core.Path.{_≡_, refl, ap, sym, subst, _∙_}
+use mathlib.Core.Path.{_≡_, refl, ap, sym, _∙_}
 use mathlib.Core.Bool.{Bool, true, false, cond, not}
 use mathlib.Core.List.{List, [], _∷_, map}
-use Prim.Native.Nat.{ℕ, zero, suc, _+_, _*_, _%_, _^_, _<_, _≤_}
+use Prim.Native.Nat.{ℕ, zero, suc, _+_, _*_, _%_, _^_}
 use native.Mathlib.Nat.{add-assoc, add-comm, add-zero, zero-add, one-mul, mul-one, mul-add, add-mul, zero-mul, mul-zero, mul-comm, add-mod, mod-eq-of-lt, pow-suc, pow-zero}
 use native.Mathlib.Omega.{arith}
 use lib.ListN.{getD, length, List·getD-map}

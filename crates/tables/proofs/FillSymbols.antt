@@ -3,11 +3,11 @@ use mathlib.Core.Path.{_≡_, refl, ap, sym, subst, _∙_}
 use mathlib.Core.Bool.{Bool, true, false, not, _&&_}
 use mathlib.Core.List.{List}
 use mathlib.Core.Logic.{⊎-elim}
-use Prim.Native.Nat.{ℕ, _+_, _<_, _≤_}
+use Prim.Native.Nat.{ℕ, _+_, _<_}
 use native.Mathlib.Omega.{arith}
 use lib.Dec.{eqb}
 use lib.ListN.{getD, length, set}
-use Rattle.std.proofs.shelf.Lists.{getD-read, getD-set-same, getD-set-other, length-set}
+use Rattle.std.proofs.shelf.Lists.{getD-read, getD-set-same, getD-set-other}
 use Rattle.std.proofs.shelf.Tests.{cases-eq, eq-eqb, ne-eqb}
 use Rattle.charts.specs.Meaning.{Moves}
 use Rattle.weights.specs.Laws.{Algebra, Laws}

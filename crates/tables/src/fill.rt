@@ -1,6 +1,6 @@
 // The row filler: functions over slices that fill one row of weights from another.
 ghost use mathlib.Core.Path.{_≡_};
-ghost use Prim.Native.Nat.{ℕ, _+_, _<_, _≤_};
+ghost use Prim.Native.Nat.{ℕ, _<_, _≤_};
 ghost use lib.Dec.{eqb};
 ghost use lib.ListN.{length, getD, drop};
 ghost use Rattle.tables.specs.Fill.{guarded, freed, alarmed, join-below, into, alarming, passed-on};

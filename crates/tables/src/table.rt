@@ -1,5 +1,6 @@
 // The table call.
 ghost use mathlib.Core.Path.{_≡_};
+ghost use Prim.Native.Nat.{ℕ};
 ghost use denote.Ref.{name};
 ghost use lib.ListN.{length};
 ghost use Rattle.charts.specs.Checks.{Checked};
@@ -48,7 +49,7 @@ pub fn tabulate<C: Chart, S: Semiring>(
     ensures first_named { λ _. ⌜ name (now (first .exit) .cells) ≡ name (now (first .entry) .cells) ⌝ }
     ensures second_named { λ _. ⌜ name (now (second .exit) .cells) ≡ name (now (second .entry) .cells) ⌝ }
     ensures listed { λ _. ⌜ Listed (length (now (weights .entry))) courses ⌝ }
-    ensures exact { λ _. ⌜ Exact (C·Chart .meaning (now (chart .entry)) .moves) limit (C·Chart .meaning (now (chart .entry)) .moves .start limit) courses ⌝ }
+    ensures exact { λ _. ⌜ ((s : ℕ) → Exact (C·Chart .meaning (now (chart .entry)) .moves) limit s courses) ⌝ }
 {
     if weights.len() == 0 || weights.len() > MAX_WEIGHTS || courses > MAX_COURSES {
         return Err(Refusal::OutOfBounds);

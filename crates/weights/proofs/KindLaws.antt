@@ -1,16 +1,14 @@
 -- The laws of the three weight kinds.
-use mathlib.Core.Path.{_≡_, refl, ap, sym, _∙_}
+use mathlib.Core.Path.{_≡_, ap, sym, _∙_}
 use mathlib.Core.HLevel.{isProp→PathP}
-use mathlib.Core.Bool.{Bool, true, false, _||_, _&&_, or-false, or-assoc, or-comm, and-or-distrib-left, and-or-distrib-right}
-use Prim.Native.Nat.{ℕ, min, _+_, _*_, _-_, _/_, _%_, _^_, _<_, _≤_}
+use Prim.Native.Nat.{ℕ, _+_, _*_, _-_, _/_, _%_, _^_, _<_}
 use native.Mathlib.Bridge.{le-prop}
 use native.Mathlib.Nat.{mod-eq-of-lt, mod-add-mod, add-mod-mod, add-assoc, add-comm, add-zero, mul-comm, one-mul, mul-add, zero-mul, mul-assoc, add-mul-mod-self-left, mod-add-div}
 use native.Mathlib.Omega.{arith}
 use Rattle.weights.specs.declared.values.Count.{Count}
 use Rattle.weights.specs.declared.values.Cost.{Cost}
-use Rattle.weights.specs.declared.values.Can.{Can}
 use Rattle.weights.specs.Laws.{Laws}
-use Rattle.weights.specs.Kinds.{counts, costs, cans, count, cost, can}
+use Rattle.weights.specs.Kinds.{counts, costs, count}
 
 -- A record with a ghost field is known by its value.
 pub count-same : (x y : Count) → x .value ≡ y .value → x ≡ y
@@ -80,25 +78,4 @@ cost-laws = record {
   join-product = λ x y z. cost-same _ _ (omega arith);
   zero-product = λ x. cost-same _ (costs .zero) (omega arith);
   product-zero = λ x. cost-same _ (costs .zero) (omega arith);
-}
-
-and-true : (a : Bool) → (a && true) ≡ a
-and-true true = refl
-and-true false = refl
-
-and-false : (a : Bool) → (a && false) ≡ false
-and-false true = refl
-and-false false = refl
-
-pub can-laws : Laws cans
-can-laws = record {
-  join-assoc = λ x y z. ap can (or-assoc (x .value) (y .value) (z .value));
-  join-comm = λ x y. ap can (or-comm (x .value) (y .value));
-  join-zero = λ x. ap can (or-false (x .value));
-  one-product = λ x. refl;
-  product-one = λ x. ap can (and-true (x .value));
-  product-join = λ x y z. ap can (and-or-distrib-left (x .value) (y .value) (z .value));
-  join-product = λ x y z. ap can (and-or-distrib-right (x .value) (y .value) (z .value));
-  zero-product = λ x. refl;
-  product-zero = λ x. ap can (and-false (x .value));
 }

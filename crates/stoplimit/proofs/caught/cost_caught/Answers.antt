@@ -12,4 +12,7 @@ returns g c =
     let w = c .args .weights .now in
     let h = c .args .limit in
     let list = front-is (length w) (c .cost-list-list .result) (cost-weights w (c .args .costs .now)) (c .cost-list-list .ensures) in
-    c .present .ensures ∙ ap present (c .caught .ensures .value ∙ ap (λ l. caught-from costs m h (m .start h) l (c .args .courses)) list)
+    record {
+      value = c .present .ensures ∙ ap present (c .caught .ensures .value ∙ ap (λ l. caught-from costs m h (m .start h) l (c .args .courses)) list);
+      rows = c .caught .ensures .rows;
+    }

@@ -3,4 +3,4 @@ use Rattle.stoplimit.proofs.design.mildest_cost.Needs as need
 
 pub returns : need.returns
 unfolding mildest
-returns g c = c .cost-caught .ensures
+returns g c = c .cost-caught .ensures .value

@@ -1,4 +1,3 @@
-use Prim.Native.Nat.{ℕ}
 use lib.ListN.{getD}
 use Rattle.weights.specs.Kinds.{count, counts}
 use Rattle.stoplimit.proofs.Filling.{Filled}

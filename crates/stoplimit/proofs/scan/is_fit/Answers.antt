@@ -1,8 +1,7 @@
-use mathlib.Core.Path.{_≡_, sym, subst, _∙_}
-use Prim.Native.Nat.{ℕ, _*_, _<_, _≤_}
+use mathlib.Core.Path.{_≡_, sym, subst}
+use Prim.Native.Nat.{ℕ, _*_, _≤_}
 use native.Mathlib.Omega.{arith}
 use Rattle.std.proofs.shelf.Tests.{false≢true, leb-true, le-leb}
-use Rattle.stoplimit.specs.Bed.{requirements}
 use Rattle.tables.specs.Figures.{good-caught, off-caught}
 use Rattle.stoplimit.proofs.Lastings.{lasting-on}
 use Rattle.stoplimit.proofs.scan.is_fit.Needs as need

@@ -4,7 +4,7 @@ use native.Mathlib.Omega.{arith}
 use lib.ListN.{length}
 use Rattle.tables.specs.Fill.{join-below, passed-on}
 use Rattle.tables.proofs.RollCourses.{below-by}
-use Rattle.tables.proofs.FillStates.{arrives, alarms, state-turn, state-none, filled, kept-past}
+use Rattle.tables.proofs.FillStates.{alarms, state-turn, state-none, filled, kept-past}
 use Rattle.tables.proofs.fill.advance.Needs as need
 use Rattle.tables.proofs.fill.advance.Needs.{then-not-is-zero, else-not-is-zero}
 

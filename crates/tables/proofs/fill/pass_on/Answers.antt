@@ -1,6 +1,5 @@
 use mathlib.Core.Path.{ap, sym, _∙_}
-use native.Mathlib.Omega.{arith}
-use lib.ListN.{getD, length}
+use lib.ListN.{getD}
 use Rattle.std.proofs.shelf.Lists.{getD-read}
 use Rattle.tables.specs.Fill.{join-below}
 use Rattle.tables.proofs.Joins.{join-below-more}

@@ -1,6 +1,5 @@
 use Rattle.tables.proofs.FillSymbols.{turn-placed, turn-none}
-use native.Mathlib.Omega.{arith}
-use mathlib.Core.Path.{_∙_, sym, subst, ap, _≡_}
+use mathlib.Core.Path.{_∙_, sym, ap}
 use lib.ListN.{length}
 use Rattle.tables.proofs.fill.spread.Needs as need
 use Rattle.tables.proofs.fill.spread.Needs.{then-not-is-zero, else-not-is-zero}

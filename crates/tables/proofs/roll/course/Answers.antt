@@ -1,6 +1,4 @@
-use mathlib.Core.Path.{refl, sym, subst}
-use native.Mathlib.Omega.{arith}
-use Prim.Native.Nat.{ℕ, _<_}
+use mathlib.Core.Path.{refl}
 use lib.ListN.{length}
 use Rattle.tables.specs.Row.{held}
 use Rattle.tables.proofs.RollCourses.{roll-even, roll-odd, below-by}

@@ -1,6 +1,6 @@
-use mathlib.Core.Path.{_≡_, refl, sym, _∙_}
+use mathlib.Core.Path.{refl, sym, _∙_}
 use mathlib.Core.Logic.{_⊎_, inl, inr, ⊎-elim}
-use Prim.Native.Nat.{_<_, _≤_}
+use Prim.Native.Nat.{_<_}
 use native.Mathlib.Omega.{arith}
 use lib.ListN.{length}
 use Rattle.tables.specs.Row.{held}
@@ -16,7 +16,7 @@ returns-then-weights-eq0 g c = record {
   first-named = refl;
   second-named = refl;
   listed = listed _ _;
-  exact = exact _ _ _ _;
+  exact = λ s. exact _ _ s _;
 }
 
 pub returns-then-len-lt-ROW-CELLS : need.returns-then-len-lt-ROW-CELLS
@@ -32,7 +32,7 @@ returns-then-len-lt-ROW-CELLS g c =
       first-named = refl;
       second-named = refl;
       listed = listed _ _;
-      exact = exact _ _ _ _;
+      exact = λ s. exact _ _ s _;
     }
 
 pub returns-then-count-eq0 : need.returns-then-count-eq0
@@ -44,7 +44,7 @@ returns-then-count-eq0 g c =
       first-named = refl;
       second-named = refl;
       listed = listed _ _;
-      exact = exact _ _ _ _;
+      exact = λ s. exact _ _ s _;
     }
 
 pub returns : need.returns
@@ -59,5 +59,5 @@ returns g c =
       first-named = c .roll-caught .ensures .lasting .0 .named;
       second-named = c .roll-caught .ensures .lasting .1 .named;
       listed = listed _ _;
-      exact = exact _ _ _ _;
+      exact = λ s. exact _ _ s _;
     }
