@@ -1,4 +1,6 @@
 // Control charts, each known by its meaning.
+#![tactic(auto)]
+
 mod chart;
 mod cusum;
 mod edge;

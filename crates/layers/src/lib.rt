@@ -1,4 +1,6 @@
 // Layers: charts over any chart, each again a chart.
+#![tactic(auto)]
+
 mod confirm;
 mod head_start;
 mod lead;

@@ -1,5 +1,7 @@
 // A chart from outside the library, alone and under each layer: the weight of the sequences that each
 // stops.
+#![tactic(auto)]
+
 mod chart;
 mod layered;
 mod refused;

@@ -1,4 +1,6 @@
 // The program stoplimit: designs the worked bed, and prints its least fit limit with the figures.
+#![tactic(auto)]
+
 mod bed;
 mod caught;
 mod design;

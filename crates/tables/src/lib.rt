@@ -1,4 +1,6 @@
 // The table of Brook and Evans, for every chart and weight kind.
+#![tactic(auto)]
+
 mod fill;
 mod part;
 mod refusal;

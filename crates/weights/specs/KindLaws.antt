@@ -1,13 +1,13 @@
 -- The laws of the three weight kinds.
-use Rattle.std.specs.Prelude.{◌≡◌, ℕ, ◌+◌, ◌-◌, ◌*◌, ◌/◌, ◌%◌, ◌^◌, ◌<◌}
-use Rattle.std.proofs.Common.{ap, sym, ◌∙◌, mod-eq_of_lt, add_assoc, add_comm, add-zero, mul_comm, one-mul, mul-add, zero-mul, mul_assoc, arith}
+use Rattle.std.specs.Prelude.{◌≡◌, ℕ, ◌+◌, ◌*◌, ◌/◌, ◌%◌, ◌^◌, ◌<◌}
+use Rattle.std.proofs.Common.{ap, sym, ◌∙◌, mod-eq_of_lt, add_assoc, add_comm, add-zero, mul_comm, one-mul, mul-add, zero-mul, mul_assoc, arith, rules}
 use mathlib.Core.HLevel.{is_prop→PathP}
 use Rattle.std.proofs.Math.Bridge.{le_prop}
 use Rattle.std.proofs.Math.Nat.{mod-add-mod, add-mod-mod, add-mul-mod_self_left, mod-add-div}
 use Rattle.weights.specs.declared.values.Count.{Count}
 use Rattle.weights.specs.declared.values.Cost.{Cost}
 use Rattle.weights.specs.Laws.{Laws}
-use Rattle.weights.specs.Kinds.{counts, costs, count}
+use Rattle.weights.specs.Kinds.{counts, costs, cans, count}
 
 -- A record with a ghost field is known by its value.
 pub count_same : (x y : Count) → x.value ≡ y.value → x ≡ y
@@ -78,3 +78,6 @@ cost_laws = record {
   zero_product = λ x. cost_same _ costs.zero (omega arith);
   product_zero = λ x. cost_same _ costs.zero (omega arith);
 }
+
+pub can_laws : Laws cans
+can_laws = search rules

@@ -19,16 +19,22 @@ counts = record {
   product = λ x y. count (x.value * y.value);
 }
 
+pub cap_fits : (n : ℕ) → min n (2 ^ 64 - 1) < 2 ^ 64
+cap_fits n = omega arith
+
+pub min_fits : (n m : ℕ) → n < 2 ^ 64 → min n m < 2 ^ 64
+min_fits n m small = omega arith
+
 -- A number as a cost: capped at 2^64 - 1, which stands for an absent one.
 abbrev pub cost : ℕ → Cost
-cost n = record { value = min n (2 ^ 64 - 1); fits = omega arith }
+cost n = record { value = min n (2 ^ 64 - 1); fits = cap_fits n }
 
 -- Costs: the join is the smaller, the product is the sum.
 abbrev pub costs : Algebra Cost
 costs = record {
   zero = cost (2 ^ 64 - 1);
   one = cost 0;
-  join = λ x y. record { value = min x.value y.value; fits = omega arith };
+  join = λ x y. record { value = min x.value y.value; fits = min_fits x.value y.value x.fits };
   product = λ x y. cost (x.value + y.value);
 }
 

@@ -2,8 +2,7 @@
 ghost use Rattle.std.specs.Prelude.{◌≡◌, true, ◌↔◌};
 ghost use Rattle.weights.specs.Kinds.{counts, costs, cans};
 ghost use Rattle.weights.specs.Laws.{Algebra, Laws};
-ghost use Rattle.weights.specs.KindLaws.{count_laws, cost_laws};
-ghost use Rattle.std.proofs.Common.{rules};
+ghost use Rattle.weights.specs.KindLaws.{count_laws, cost_laws, can_laws};
 
 use crate::values::{Can, Cost, Count};
 
@@ -93,7 +92,7 @@ impl Semiring for Cost {
 impl Semiring for Can {
     ghost kind = { cans };
 
-    ghost laws = { Prim.search rules };
+    ghost laws = { can_laws };
 
     fn zero() -> Can {
         Can { value: false }

@@ -1,4 +1,6 @@
 // Worked beds: shown true of the definitions, and run over the table call.
+#![tactic(auto)]
+
 ghost use Rattle.std.specs.Prelude.{◌≡◌, length};
 ghost use Rattle.worked_examples.specs.Beds.{worked_beds};
 ghost use Rattle.worked_examples.specs.Claims.{AllTrue};
