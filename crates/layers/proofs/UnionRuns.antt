@@ -1,5 +1,5 @@
 -- A union is in the pair of the two states, and stops as either does.
-use Rattle.std.proofs.Common.{◌≡◌, ℕ, ◌+◌, ◌<◌, Bool, true, false, ◌||◌, List, [], ◌∷◌, ◌++◌, sym, refl, ap, ◌∙◌}
+use Rattle.std.proofs.Common.{◌≡◌, ℕ, ◌<◌, Bool, true, false, ◌||◌, List, [], ◌∷◌, ◌++◌, sym, refl, ap, ◌∙◌}
 use Rattle.charts.specs.Meaning.{Meaning, Sound}
 use Rattle.charts.specs.RangesSound.{run_stays}
 use Rattle.charts.specs.Runs.{Symbols, end_state, alarms_after, stopped}

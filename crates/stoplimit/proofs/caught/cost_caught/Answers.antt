@@ -10,7 +10,7 @@ returns g c =
     let m = (g.C.Chart.meaning c.args.chart.now).moves in
     let w = c.args.weights.now in
     let h = c.args.limit in
-    let list = front_is (length w) c.cost-list-list.result (cost_weights w c.args.costs.now) c.cost-list-list.ensures in
+    let list = front_is (length w) c.cost_list-list.result (cost_weights w c.args.costs.now) c.cost_list-list.ensures in
     record {
       value = c.present.ensures ∙ ap present (c.caught.ensures.value ∙ ap (λ l. caught_from costs m h (m.start h) l c.args.courses) list);
       rows = c.caught.ensures.rows;

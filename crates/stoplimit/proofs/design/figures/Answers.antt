@@ -8,14 +8,14 @@ unfolding good_caught off_caught
 returns g c = record {
   value = record {
     limit_is = refl;
-    good_is = c.count-caught.ensures.value;
+    good_is = c.count_caught.ensures.value;
     good_of = c.whole.ensures;
-    off_is = c.count-caught-2.ensures.value;
+    off_is = c.count_caught-2.ensures.value;
     off_of = c.whole-2.ensures;
     mildest_is = c.mildest_cost.ensures;
   };
   rows = (
-    lasting_on c.count-caught.ensures.rows.0 c.count-caught-2.ensures.rows.0,
-    lasting_on c.count-caught.ensures.rows.1 c.count-caught-2.ensures.rows.1,
+    lasting_on c.count_caught.ensures.rows.0 c.count_caught-2.ensures.rows.0,
+    lasting_on c.count_caught.ensures.rows.1 c.count_caught-2.ensures.rows.1,
   );
 }

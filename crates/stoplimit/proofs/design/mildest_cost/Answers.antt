@@ -3,4 +3,4 @@ use Rattle.stoplimit.proofs.design.mildest_cost.Goals as goal
 
 pub returns : goal.returns
 unfolding mildest
-returns g c = c.cost-caught.ensures.value
+returns g c = c.cost_caught.ensures.value
