@@ -1,11 +1,11 @@
 -- What moves make of a sequence of symbols.
 use Rattle.std.specs.Prelude.{◌≡◌, ℕ, ◌<◌, Bool, true, false, ◌||◌, List, [], ◌∷◌, ◌++◌}
-use Rattle.std.specs.List.{AllByRecursion as All}
+use Rattle.std.specs.List.{AllByRecursion}
 use Rattle.charts.specs.Meaning.{Moves}
 
 -- Every symbol of the sequence is below k.
 abbrev pub Symbols : ℕ → List ℕ → Type 0
-Symbols k q = All (λ a. a < k) q
+Symbols k q = AllByRecursion (λ a. a < k) q
 
 -- The state after a sequence, from the state s.
 abbrev pub run_from : Moves → ℕ → ℕ → List ℕ → ℕ

@@ -1,6 +1,6 @@
 // Why a chart's parameter is refused.
 ghost use Rattle.std.specs.Prelude.{◌≡◌};
-ghost use Rattle.charts.specs.Refusal.{number as number_of_lem};
+ghost use Rattle.charts.specs.Refusal.{number as number_of};
 
 #[derive(Clone, Copy, PartialEq, Eq, Debug)]
 pub enum Refusal {
@@ -13,7 +13,7 @@ pub enum Refusal {
 impl Refusal {
     // The number of the refusal.
     pub fn number(self) -> u32
-        ensures { result ≡ number_of_lem self }
+        ensures { result ≡ number_of self }
     {
         match self {
             Refusal::OutOfRange => 23,

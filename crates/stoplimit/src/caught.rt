@@ -1,10 +1,10 @@
 // The caught values of a chart at a limit where it has states.
 ghost use Rattle.std.specs.Prelude.{◌≡◌, ◌^◌, ◌<◌, ◌≤◌, length, sum};
 ghost use Rattle.tables.specs.Exact.{naturals};
-ghost use Rattle.tables.specs.Figures.{cost_weights, present as present-cost};
+ghost use Rattle.tables.specs.Figures.{cost_weights, present as present_cost};
 ghost use Rattle.tables.specs.Row.{held, Lasting};
 ghost use Rattle.tables.specs.Table.{caught_from};
-ghost use Rattle.weights.specs.Kinds.{costs as cost-kind};
+ghost use Rattle.weights.specs.Kinds.{costs as cost_kind};
 
 use crate::lists::{cost_list, count_list};
 use charts::Chart;
@@ -67,7 +67,7 @@ pub(crate) fn count_caught<C: Chart>(
 
 // A cost, or none where it is absent.
 fn present(cost: Cost) -> Option<u64>
-    ensures { result ≡ present-cost cost }
+    ensures { result ≡ present_cost cost }
 {
     if cost.is_zero() {
         None
@@ -92,7 +92,7 @@ pub(crate) fn cost_caught<C: Chart>(
     requires alike { length costs.now ≡ length weights.now }
     requires courses { courses ≤ 40 }
     requires room { (1024 ≤ length (held first.old)) × (1024 ≤ length (held second.old)) }
-    ensures value { result ≡ present-cost (caught_from cost-kind (C.Chart.meaning chart.now).moves limit ((C.Chart.meaning chart.now).moves.start limit) (cost_weights weights.now costs.now) courses) }
+    ensures value { result ≡ present_cost (caught_from cost_kind (C.Chart.meaning chart.now).moves limit ((C.Chart.meaning chart.now).moves.start limit) (cost_weights weights.now costs.now) courses) }
     ensures rows { Lasting first.old first.new × Lasting second.old second.new }
 {
     let list = cost_list(weights, costs);

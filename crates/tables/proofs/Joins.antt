@@ -1,6 +1,6 @@
 -- Joins over a semiring: over the numbers below n, and over the elements of a list that pass a test.
 use Rattle.std.proofs.Common.{◌≡◌, ℕ, zero, suc, ◌+◌, ◌<◌, Bool, true, false, cond, ◌&&◌, eqb, List, [], ◌∷◌, ◌++◌, map, sym, refl, ap, ◌∙◌, subst, ⊎_elim, add-one, arith}
-use Rattle.std.specs.List.{flat_map, AllByRecursion as All}
+use Rattle.std.specs.List.{flat_map, AllByRecursion}
 use Rattle.std.proofs.lemmas.List.{map-append}
 use Rattle.std.proofs.lemmas.Bool.{cases_eq, eq-eqb, ne_eqb}
 use Rattle.weights.specs.Laws.{Algebra, Laws}
@@ -111,7 +111,7 @@ module _ {S : Type 0} (k : Algebra S) (l : Laws k) where
       ]
 
   -- The same elements, grouped by a number e below n: each group's join goes through g of its number.
-  pub join_grouped : {X : Type 0} (g : ℕ → S → S) → ((i : ℕ) → Additive k (g i)) → (p : X → Bool) (f : X → S) (e : X → ℕ) (n : ℕ) (xs : List X) → All (λ x. e x < n) xs → join_below k (λ i. g i (join_over k (λ x. p x && eqb (e x) i) f xs)) n ≡ join_over k p (λ x. g (e x) (f x)) xs
+  pub join_grouped : {X : Type 0} (g : ℕ → S → S) → ((i : ℕ) → Additive k (g i)) → (p : X → Bool) (f : X → S) (e : X → ℕ) (n : ℕ) (xs : List X) → AllByRecursion (λ x. e x < n) xs → join_below k (λ i. g i (join_over k (λ x. p x && eqb (e x) i) f xs)) n ≡ join_over k p (λ x. g (e x) (f x)) xs
   join_grouped g a p f e n [] h = join_below_same _ _ n (λ i _. (a i).at_zero) ∙ join_below_zero n
   join_grouped g a p f e n (x ∷ xs) h =
       let rest : ℕ → S = λ i. join_over k (λ y. p y && eqb (e y) i) f xs in

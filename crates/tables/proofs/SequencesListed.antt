@@ -1,7 +1,7 @@
 -- The list of sequences has every sequence, each once.
 use Rattle.std.proofs.Common.{◌≡◌, ℕ, zero, suc, ◌+◌, ◌*◌, ◌/◌, ◌%◌, ◌<◌, List, [], ◌∷◌, ◌++◌, map, length, get_or, sym, refl, ap, ◌∙◌, subst, ⊎_elim, suc-mul, mul_comm, mul-zero, zero-mul, arith}
 use native.Mathlib.Nat.{mod-add-div}
-use Rattle.std.specs.List.{flat_map, AllByRecursion as All}
+use Rattle.std.specs.List.{flat_map, AllByRecursion}
 use Rattle.std.proofs.lemmas.List.{length-append, length-map, length_push, get_or_append_left, get_or-append-add, get_or_push, get_or-map, same_from_push}
 use Rattle.std.proofs.lemmas.Bool.{cases_lt}
 use Rattle.std.proofs.lemmas.Nat.{mul-add-lt, div_below, mod_below}
@@ -50,11 +50,11 @@ pushed : (a : ℕ) (q : List ℕ) → Pushed (a ∷ q)
 pushed a [] = record { front = []; last = a; is = refl }
 pushed a (b ∷ q) = let p = pushed b q in record { front = a ∷ p.front; last = p.last; is = ap (λ r. a ∷ r) p.is }
 
-all_parts : {X : Type 0} (P : X → Type 0) (xs ys : List X) → All P (xs ++ ys) → All P xs × All P ys
+all_parts : {X : Type 0} (P : X → Type 0) (xs ys : List X) → AllByRecursion P (xs ++ ys) → AllByRecursion P xs × AllByRecursion P ys
 all_parts P [] ys h = (tt, h)
 all_parts P (x ∷ xs) ys h = let p = all_parts P xs ys h.1 in ((h.0, p.0), p.1)
 
-all_push : {X : Type 0} (P : X → Type 0) (xs : List X) (y : X) → All P xs → P y → All P (xs ++ y ∷ [])
+all_push : {X : Type 0} (P : X → Type 0) (xs : List X) (y : X) → AllByRecursion P xs → P y → AllByRecursion P (xs ++ y ∷ [])
 all_push P [] y h g = (g, tt)
 all_push P (x ∷ xs) y h g = (h.0, all_push P xs y h.1 g)
 

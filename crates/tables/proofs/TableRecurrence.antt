@@ -1,6 +1,6 @@
 -- The recurrence of the table: one course more, from the row of the courses before.
 use Rattle.std.proofs.Common.{◌≡◌, ℕ, zero, suc, ◌+◌, ◌<◌, Bool, true, false, cond, not, ◌&&◌, ◌||◌, eqb, List, [], ◌∷◌, ◌++◌, map, length, get_or, sym, refl, ap, ◌∙◌, subst, add-one, arith}
-use Rattle.std.specs.List.{flat_map, AllByRecursion as All}
+use Rattle.std.specs.List.{flat_map, AllByRecursion}
 use Rattle.std.proofs.lemmas.List.{map-append}
 use Rattle.charts.specs.Meaning.{Moves}
 use Rattle.charts.specs.Runs.{run_from, stops_from}
@@ -16,21 +16,21 @@ product_push : {S : Type 0} (k : Algebra S) (w : List S) (x : S) (q : List ℕ) 
 product_push k w x [] a = refl
 product_push k w x (b ∷ q) a = product_push k w _ q a
 
-all_append : {X : Type 0} (P : X → Type 0) (xs ys : List X) → All P xs → All P ys → All P (xs ++ ys)
+all_append : {X : Type 0} (P : X → Type 0) (xs ys : List X) → AllByRecursion P xs → AllByRecursion P ys → AllByRecursion P (xs ++ ys)
 all_append P [] ys h g = g
 all_append P (x ∷ xs) ys h g = (h.0, all_append P xs ys h.1 g)
 
-all_symbols : {X : Type 0} (P : X → Type 0) (make : ℕ → X) (n : ℕ) → ((a : ℕ) → a < n → P (make a)) → All P (map make (symbols n))
+all_symbols : {X : Type 0} (P : X → Type 0) (make : ℕ → X) (n : ℕ) → ((a : ℕ) → a < n → P (make a)) → AllByRecursion P (map make (symbols n))
 all_symbols P make zero h = tt
 all_symbols P make (suc n) h =
-    subst (All P) (sym (map-append make (symbols n) (n ∷ []))) (all_append P _ _ (all_symbols P make n (λ a b. h a (omega arith))) (h n (omega arith), tt))
+    subst (AllByRecursion P) (sym (map-append make (symbols n) (n ∷ []))) (all_append P _ _ (all_symbols P make n (λ a b. h a (omega arith))) (h n (omega arith), tt))
 
-all_joined : {X Y : Type 0} (P : X → Type 0) (Q : Y → Type 0) (make : X → List Y) (xs : List X) → ((x : X) → P x → All Q (make x)) → All P xs → All Q (flat_map make xs)
+all_joined : {X Y : Type 0} (P : X → Type 0) (Q : Y → Type 0) (make : X → List Y) (xs : List X) → ((x : X) → P x → AllByRecursion Q (make x)) → AllByRecursion P xs → AllByRecursion Q (flat_map make xs)
 all_joined P Q make [] f h = tt
 all_joined P Q make (x ∷ xs) f h = all_append Q (make x) (flat_map make xs) (f x h.0) (all_joined P Q make xs f h.1)
 
 -- Every sequence from a state below the count ends below it, where each step does.
-ends_below : (m : Moves) (h s count i n : ℕ) → s < count → ((t a : ℕ) → t < count → a < i → m.step h t a < count) → All (λ q. run_from m h s q < count) (sequences i n)
+ends_below : (m : Moves) (h s count i n : ℕ) → s < count → ((t a : ℕ) → t < count → a < i → m.step h t a < count) → AllByRecursion (λ q. run_from m h s q < count) (sequences i n)
 ends_below m h s count i zero from stays = (from, tt)
 ends_below m h s count i (suc n) from stays =
     all_joined (λ q. run_from m h s q < count) (λ q. run_from m h s q < count) _ (sequences i n)

@@ -4,7 +4,6 @@ use Rattle.charts.specs.Meaning.{Meaning}
 use Rattle.weights.specs.declared.values.Can.{Can}
 use Rattle.weights.specs.declared.values.Cost.{Cost}
 use Rattle.weights.specs.Kinds.{cost, costs, can, cans}
-use Rattle.weights.specs.Laws.{Algebra}
 use Rattle.tables.specs.Exact.{naturals}
 use Rattle.tables.specs.Table.{caught_from}
 
@@ -36,13 +35,9 @@ good_caught m r h = caught_from naturals m.moves h (m.moves.start h) r.good r.go
 unfoldable pub off_caught : Meaning → Requirements → ℕ → ℕ
 off_caught m r h = caught_from naturals m.moves h (m.moves.start h) r.off r.off_courses
 
--- What x of a kind is worth at a symbol of off weight w: zero where that is 0.
-abbrev pub where_off : {S : Type 0} → Algebra S → ℕ → S → S
-where_off k w x = cond (w == 0) k.zero x
-
--- The costs of the symbols as weights, absent where the off weight is 0.
+-- The costs of the symbols as weights: absent where the off weight is 0.
 abbrev pub cost_weight : ℕ → ℕ → Cost
-cost_weight w c = where_off costs w (cost c)
+cost_weight w c = cond (w == 0) costs.zero (cost c)
 
 abbrev pub cost_weights : List ℕ → List ℕ → List Cost
 cost_weights [] cs = []
@@ -50,8 +45,11 @@ cost_weights (w ∷ ws) [] = []
 cost_weights (w ∷ ws) (c ∷ cs) = cost_weight w c ∷ cost_weights ws cs
 
 -- Yes for each symbol, but no where the off weight is 0.
+abbrev pub can_weight : ℕ → Can
+can_weight w = cond (w == 0) cans.zero (can true)
+
 abbrev pub can_weights : List ℕ → List Can
-can_weights ws = map (λ w. where_off cans w (can true)) ws
+can_weights ws = map can_weight ws
 
 -- A cost, or none where it is absent.
 abbrev pub present : Cost → Option ℕ

@@ -1,6 +1,6 @@
 // Why the table call refuses.
 ghost use Rattle.std.specs.Prelude.{◌≡◌};
-ghost use Rattle.tables.specs.Refusal.{number as number_of_lem};
+ghost use Rattle.tables.specs.Refusal.{number as number_of};
 
 #[derive(Clone, Copy, PartialEq, Eq, Debug)]
 pub enum Refusal {
@@ -15,7 +15,7 @@ pub enum Refusal {
 impl Refusal {
     // The number of the refusal.
     pub fn number(self) -> u32
-        ensures { result ≡ number_of_lem self }
+        ensures { result ≡ number_of self }
     {
         match self {
             Refusal::OutOfBounds => 41,

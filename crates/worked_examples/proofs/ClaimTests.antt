@@ -1,6 +1,6 @@
 -- Tests of claims that the checker computes, and what each gives.
 use Rattle.std.proofs.Common.{◌≡◌, ℕ, zero, suc, ◌+◌, ◌-◌, ◌*◌, ◌<◌, ◌≤◌, Bool, true, false, not, ◌&&◌, eqb, leb, List, [], ◌∷◌, Some, None, Option, refl, ap, ◌∙◌, ⊎_elim, arith}
-use Rattle.std.specs.List.{AllByRecursion as All}
+use Rattle.std.specs.List.{AllByRecursion}
 use Rattle.std.proofs.lemmas.Bool.{cases_eq, leb-true, le-leb, eqb-true, and_parts, and_from, not-true, both_ways, false≢true}
 use Rattle.charts.specs.Meaning.{Meaning}
 use Rattle.tables.specs.Figures.{Requirements, Figures, good_total, off_total, good_caught, off_caught, figures}
@@ -129,7 +129,7 @@ abbrev pub every : {X : Type 0} → (X → Bool) → List X → Bool
 every p [] = true
 every p (x ∷ xs) = p x && every p xs
 
-every_is : {X : Type 0} (p : X → Bool) (P : X → Type 0) → ((x : X) → p x ≡ true → P x) → (xs : List X) → every p xs ≡ true → All P xs
+every_is : {X : Type 0} (p : X → Bool) (P : X → Type 0) → ((x : X) → p x ≡ true → P x) → (xs : List X) → every p xs ≡ true → AllByRecursion P xs
 every_is p P so [] e = tt
 every_is p P so (x ∷ xs) e = let both = and_parts (p x) (every p xs) e in (so x both.0, every_is p P so xs both.1)
 
@@ -138,6 +138,6 @@ all_hold beds = every (λ b. every (holds b.chart b.asks) b.claims) beds
 
 pub all_true : (beds : List Bed) → all_hold beds ≡ true → AllTrue beds
 all_true beds e =
-    every_is (λ b. every (holds b.chart b.asks) b.claims) (λ b. All (TrueOf b.chart b.asks) b.claims)
+    every_is (λ b. every (holds b.chart b.asks) b.claims) (λ b. AllByRecursion (TrueOf b.chart b.asks) b.claims)
     (λ b. every_is (holds b.chart b.asks) (TrueOf b.chart b.asks) (true_of b.chart b.asks) b.claims)
     beds e

@@ -1,6 +1,6 @@
 -- What can be claimed of a chart and what a task asks.
 use Rattle.std.specs.Prelude.{◌≡◌, ℕ, List}
-use Rattle.std.specs.List.{AllByRecursion as All}
+use Rattle.std.specs.List.{AllByRecursion}
 use Rattle.charts.specs.Meaning.{Meaning}
 use Rattle.tables.specs.Figures.{Requirements, Figures, good_total, off_total, good_caught, figures}
 use Rattle.tables.specs.Fit.{Least, NoneFit}
@@ -34,4 +34,4 @@ pub record Bed : Type 0 where
 
 -- Every claim of every bed is true.
 abbrev pub AllTrue : List Bed → Type 0
-AllTrue beds = All (λ b. All (TrueOf b.chart b.asks) b.claims) beds
+AllTrue beds = AllByRecursion (λ b. AllByRecursion (TrueOf b.chart b.asks) b.claims) beds
