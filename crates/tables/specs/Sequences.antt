@@ -1,5 +1,5 @@
 -- All sequences of a length over some symbols, and the weight of one.
-use Rattle.std.specs.Prelude.{◌≡◌, ℕ, zero, suc, ◌<◌, List, [], ◌∷◌, ◌++◌, map, length, get_or, slice_index_or}
+use Rattle.std.specs.Prelude.{◌≡◌, ℕ, zero, suc, ◌<◌, List, [], ◌∷◌, ◌++◌, map, length, slice_index_or}
 use Rattle.std.specs.List.{flat_map}
 use Rattle.charts.specs.Runs.{Symbols}
 use Rattle.weights.specs.Laws.{Algebra}
@@ -23,7 +23,7 @@ pub record Sequence (k n : ℕ) (q : List ℕ) : Type 0 where
 pub record Once (q : List ℕ) (list : List (List ℕ)) : Type 0 where
   pub place : ℕ
   pub within : place < length list
-  pub there : get_or list place [] ≡ q
+  pub there : slice_index_or list place [] ≡ q
   pub only : (i : ℕ) → i < length list → slice_index_or list i [] ≡ q → i ≡ place
 
 -- The list of sequences has every sequence of n symbols below k, each once, and nothing else.

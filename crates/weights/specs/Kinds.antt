@@ -19,6 +19,7 @@ counts = record {
   product = λ x y. count (x.value * y.value);
 }
 
+-- What the ghost field of `Cost` asks of a capped number, and of the smaller of two.
 pub cap_fits : (n : ℕ) → min n (2 ^ 64 - 1) < 2 ^ 64
 cap_fits n = omega arith
 

@@ -2,7 +2,7 @@
 #![tactic(auto)]
 
 ghost use Rattle.std.specs.Prelude.{◌≡◌, length};
-ghost use Rattle.worked_examples.specs.Beds.{worked_beds};
+ghost use Rattle.worked_examples.specs.Beds.{worked_beds as listed_beds};
 ghost use Rattle.worked_examples.specs.Claims.{AllTrue};
 
 #[cfg(test)]
@@ -10,8 +10,8 @@ mod tests;
 
 // How many beds the list of worked beds has. All that it claims of them is true.
 pub fn worked_beds() -> usize
-    ensures count { result ≡ length worked_beds }
-    ensures hold { AllTrue worked_beds }
+    ensures count { result ≡ length listed_beds }
+    ensures hold { AllTrue listed_beds }
 {
     6
 }
