@@ -1,10 +1,9 @@
 -- A cusum stops a sequence exactly when some block of it is heavy.
-use Rattle.std.proofs.Common.{◌≡◌, ℕ, ◌<◌, ◌≤◌, min, true, false, ◌&&◌, ◌||◌, eqb, ltb, leb, ◌⊎◌, List, [], ◌∷◌, ◌++◌, get_or, ℤ, pos, negsuc, ◌+ℤ◌, ◌≤ℤ◌, sym, refl, ap, ◌∙◌, subst, inl, inr, ⊎_elim, arith}
+use Rattle.std.proofs.Common.{◌≡◌, ℕ, ◌<◌, ◌≤◌, min, true, false, ◌||◌, ◌⊎◌, List, [], ◌∷◌, ◌++◌, get_or, ℤ, pos, ◌+ℤ◌, ◌≤ℤ◌, refl, ap, ◌∙◌, inl, inr, ⊎_elim, arith}
 use Rattle.std.proofs.lemmas.Int.{ints}
-use Rattle.std.proofs.lemmas.Bool.{cases_lt, lt-ltb, le-leb, eq-eqb, ne_eqb, cond-true, and_from, and_right, or_left, or_right, false≢true}
+use Rattle.std.proofs.lemmas.Bool.Decides.{nat_tests}
+use Rattle.std.proofs.lemmas.Bool.{or_left, or_right, false≢true}
 use Rattle.charts.specs.Cusum.{raised, cusum}
-use Rattle.charts.specs.Ranges.{valid}
-use Rattle.charts.specs.RangesSound.{in_range_valid}
 use Rattle.charts.specs.Runs.{stops_from, Symbols}
 use Rattle.charts.specs.CusumLaw.{total, Heavy, StopsByBlocks}
 
@@ -17,30 +16,21 @@ record Reach (scores : List ℤ) (h s : ℕ) (w : List ℕ) : Type 0 where
 
 -- A state cut to h is h, or lies below it: then it is the number, or 0 where that is negative.
 cut : (h : ℕ) (z : ℤ) → 1 ≤ h → ((min h (raised z) ≡ h) × (pos h ≤ℤ z)) ⊎ ((min h (raised z) < h) × (z ≤ℤ pos (min h (raised z))) × ((pos (min h (raised z)) ≡ z) ⊎ (min h (raised z) ≡ 0)))
-cut h (pos n) l =
-    ⊎_elim
-    (λ low. let e : min h n ≡ n = omega arith in inr (omega arith, omega (arith, ints), inl (ap pos e)))
-    (λ high. inl (omega arith, omega (arith, ints)))
-    (cases_lt n h)
-cut h (negsuc n) l = inr (omega arith, omega (arith, ints), inr (omega arith))
+cut h z l = grind (arith, ints)
 
 module _ (scores : List ℤ) (h : ℕ) (lo : 1 ≤ h) (hi : h ≤ 1023) where
-  law : valid h ≡ true
-  law = in_range_valid h lo hi
-
   step_is : (s a : ℕ) → s < h → a < 16 → (cusum scores).moves.step h s a ≡ min h (raised (pos s +ℤ get_or scores a (pos 0)))
-  step_is s a l b =
-      cond-true _ _ 0 (and_from (valid h && leb s h) (ltb a 16) (and_from (valid h) (leb s h) law (le-leb s h (omega arith))) (lt-ltb a 16 b))
+  step_is s a l b = grind (arith, nat_tests)
 
   -- What a sequence does from a state, by the state after its first symbol.
   stops_by : (s a t : ℕ) (w : List ℕ) → (cusum scores).moves.step h s a ≡ t → stops_from (cusum scores).moves h s (a ∷ w) ≡ ((cusum scores).moves.alarm h t || stops_from (cusum scores).moves h t w)
   stops_by s a t w e = ap (λ u. (cusum scores).moves.alarm h u || stops_from (cusum scores).moves h u w) e
 
   top_alarms : (cusum scores).moves.alarm h h ≡ true
-  top_alarms = and_from (valid h) (eqb h h) law (eq-eqb h h refl)
+  top_alarms = grind (arith, nat_tests)
 
   below_quiet : (t : ℕ) → t < h → (cusum scores).moves.alarm h t ≡ false
-  below_quiet t l = and_right (valid h) (eqb t h) (ne_eqb t h (λ e. omega arith))
+  below_quiet t l = grind (arith, nat_tests)
 
   found_from : (w : List ℕ) (s : ℕ) → s < h → Symbols 16 w → stops_from (cusum scores).moves h s w ≡ true → Reach scores h s w ⊎ Heavy scores h w
   found_from [] s l y e = absurd (false≢true e)
@@ -49,7 +39,9 @@ module _ (scores : List ℤ) (h : ℕ) (lo : 1 ≤ h) (hi : h ≤ 1023) where
       (λ up. inl (record { front = a ∷ []; rest = w; is = refl; high = let k = up.1 in omega (arith, ints) }))
       (λ low.
       let t : ℕ = min h (raised (pos s +ℤ get_or scores a (pos 0))) in
-      let q : stops_from (cusum scores).moves h t w ≡ true = sym (ap (λ v. v || stops_from (cusum scores).moves h t w) (below_quiet t low.0)) ∙ sym (stops_by s a t w (step_is s a l b)) ∙ e in
+      let quiet = below_quiet t low.0 in
+      let step = stops_by s a t w (step_is s a l b) in
+      let q : stops_from (cusum scores).moves h t w ≡ true = grind (arith, nat_tests) in
       ⊎_elim
       (λ r.
       ⊎_elim
@@ -64,24 +56,22 @@ module _ (scores : List ℤ) (h : ℕ) (lo : 1 ≤ h) (hi : h ≤ 1023) where
   reach_on : (a s t : ℕ) (w front rest : List ℕ) → s < h → (pos s +ℤ get_or scores a (pos 0)) ≤ℤ pos t → a ∷ w ≡ front ++ rest → pos h ≤ℤ (pos s +ℤ total scores front) → Reach scores h t w
   reach_on a s t w [] rest l k e high = absurd (omega (arith, ints))
   reach_on a s t w (b ∷ f) rest l k e high =
-      let same : a ≡ b = cc in
-      let tail : w ≡ f ++ rest = cc in
-      let here : pos h ≤ℤ (pos s +ℤ (get_or scores a (pos 0) +ℤ total scores f)) = subst (λ x. pos h ≤ℤ (pos s +ℤ (get_or scores x (pos 0) +ℤ total scores f))) (sym same) high in
-      record { front = f; rest = rest; is = tail; high = omega (arith, ints) }
+      let same : b ≡ a = cc in
+      let here = rw same at high in
+      record { front = f; rest = rest; is = cc; high = omega (arith, ints) }
 
   heavy_on : (a s t : ℕ) (w before block after : List ℕ) → s < h → (pos s +ℤ get_or scores a (pos 0)) ≤ℤ pos t → a ∷ w ≡ before ++ (block ++ after) → pos h ≤ℤ total scores block → Reach scores h t w ⊎ Heavy scores h w
   heavy_on a s t w [] block after l k e heavy = inl (reach_on a s t w block after l k e (omega (arith, ints)))
   heavy_on a s t w (b ∷ u) block after l k e heavy =
-      let tail : w ≡ u ++ (block ++ after) = cc in
-      inr (record { before = u; block = block; after = after; is = tail; heavy = heavy })
+      inr (record { before = u; block = block; after = after; is = cc; heavy = heavy })
 
   reach_none : (s : ℕ) (front rest : List ℕ) → s < h → [] ≡ front ++ rest → pos h ≤ℤ (pos s +ℤ total scores front) → ⊥
   reach_none s [] rest l e high = omega (arith, ints)
-  reach_none s (b ∷ f) rest l e high = let z : ◌≡◌ {A = ℕ} 0 1 = cc in omega arith
+  reach_none s (b ∷ f) rest l e high = cc
 
   heavy_none : (before block after : List ℕ) → [] ≡ before ++ (block ++ after) → pos h ≤ℤ total scores block → ⊥
   heavy_none [] block after e heavy = reach_none 0 block after lo e (omega (arith, ints))
-  heavy_none (b ∷ u) block after e heavy = let z : ◌≡◌ {A = ℕ} 0 1 = cc in omega arith
+  heavy_none (b ∷ u) block after e heavy = cc
 
   stops_at : (w : List ℕ) (s : ℕ) → s < h → Symbols 16 w → Reach scores h s w ⊎ Heavy scores h w → stops_from (cusum scores).moves h s w ≡ true
   stops_at [] s l y c =

@@ -1,8 +1,8 @@
 -- Sequences by their last symbol: induction, and what it adds to a run.
-use Rattle.std.proofs.Common.{◌≡◌, ℕ, ◌<◌, ◌||◌, List, [], ◌∷◌, ◌++◌, sym, refl, ap, ◌∙◌, subst, append_assoc, append-nil}
-use mathlib.Core.Bool.{or_assoc, or-false}
+use Rattle.std.proofs.Common.{◌≡◌, ℕ, ◌<◌, ◌||◌, List, [], ◌∷◌, ◌++◌, sym, refl, subst, append_assoc, append-nil, arith}
+use Rattle.std.proofs.lemmas.Bool.Decides.{nat_tests}
 use Rattle.charts.specs.Meaning.{Moves}
-use Rattle.charts.specs.Runs.{Symbols, run_from, stops_from}
+use Rattle.charts.specs.Runs.{Symbols, run_from, end_state, stops_from}
 
 -- What holds of some courses, and of one course more each time, holds with a whole sequence more.
 lengthened : (P : List ℕ → Type 0) → ((q : List ℕ) (a : ℕ) → P q → P (q ++ a ∷ [])) → (done q : List ℕ) → P done → P (done ++ q)
@@ -20,6 +20,10 @@ pub run_push : (m : Moves) (h s : ℕ) (q : List ℕ) (a : ℕ) → run_from m h
 run_push m h s [] a = refl
 run_push m h s (b ∷ q) a = run_push m h _ q a
 
+-- After a sequence and one symbol more, the state is a step on.
+pub end_push : (m : Moves) (h : ℕ) (q : List ℕ) (a : ℕ) → end_state m h (q ++ a ∷ []) ≡ m.step h (end_state m h q) a
+end_push m h q a = run_push m h (m.start h) q a
+
 pub stops_push : (m : Moves) (h s : ℕ) (q : List ℕ) (a : ℕ) → stops_from m h s (q ++ a ∷ []) ≡ (stops_from m h s q || m.alarm h (m.step h (run_from m h s q) a))
-stops_push m h s [] a = or-false _
-stops_push m h s (b ∷ q) a = ap (λ r. m.alarm h (m.step h s b) || r) (stops_push m h _ q a) ∙ sym (or_assoc (m.alarm h (m.step h s b)) (stops_from m h (m.step h s b) q) (m.alarm h (m.step h (run_from m h (m.step h s b) q) a)))
+stops_push m h s [] a = grind (arith, nat_tests)
+stops_push m h s (b ∷ q) a = grind (arith, nat_tests, stops_push m h (m.step h s b) q a)

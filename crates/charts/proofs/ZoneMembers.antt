@@ -1,33 +1,26 @@
 -- A zone rule alarms exactly when at least k of the last m symbols are members.
-use Rattle.std.proofs.Common.{◌≡◌, ℕ, zero, suc, ◌+◌, ◌-◌, ◌*◌, ◌/◌, ◌%◌, ◌^◌, ◌<◌, ◌≤◌, Bool, true, false, cond, ◌&&◌, ltb, leb, List, [], ◌∷◌, ◌++◌, reverse, length, take, drop, sym, refl, ap, ◌∙◌, add-one, arith}
+use Rattle.std.proofs.Common.{◌≡◌, ℕ, zero, suc, ◌+◌, ◌-◌, ◌*◌, ◌/◌, ◌%◌, ◌^◌, ◌<◌, ◌≤◌, Bool, true, cond, ◌&&◌, ltb, leb, List, [], ◌∷◌, ◌++◌, reverse, length, take, drop, sym, ap, ◌∙◌, add-one, arith}
 use native.Mathlib.Nat.{zero-mod}
 use lib.Count.{ones, ones_step, ones-le}
+use Rattle.std.proofs.Math.Seq.{take-nil}
+use Rattle.std.proofs.lemmas.Bool.Decides.{nat_tests}
+use Rattle.std.proofs.lemmas.Grind.{common_steps}
 use Rattle.std.proofs.lemmas.Nat.{mod-pow-add, mod_below, pow_pos}
 use Rattle.std.proofs.lemmas.List.{take-take, drop_all, drop-append-le, length_push, reverse-append}
-use Rattle.std.proofs.lemmas.Bool.{le-leb, leb-true, lt-ltb, cond-true, and_from}
+use Rattle.std.proofs.lemmas.Bool.{lt-ltb, cond-true, and_from}
 use Rattle.charts.specs.Edge.{member}
 use Rattle.charts.specs.Ranges.{valid}
-use Rattle.charts.specs.RangesSound.{in_range_valid}
 use Rattle.charts.specs.Runs.{Symbols, end_state, alarms_after}
 use Rattle.charts.specs.Zone.{bit, zone}
 use Rattle.charts.specs.ZoneLaw.{members, last, AlarmsByMembers}
 use Rattle.charts.specs.declared.edge.Edge.{Edge}
-use Rattle.charts.proofs.RunsByLast.{by_last, symbols_last, run_push}
+use Rattle.charts.proofs.RunsByLast.{by_last, symbols_last, end_push}
 
 bit_small : (b : Bool) → bit b < 2
-bit_small true = omega arith
-bit_small false = omega arith
+bit_small b = grind (arith, nat_tests)
 
-take_none : (m : ℕ) → take {A = ℕ} m [] ≡ []
-take_none zero = refl
-take_none (suc m) = refl
-
-take_again : (n m a : ℕ) (q : List ℕ) → n ≤ m → take n (a ∷ take m q) ≡ take n (a ∷ q)
-take_again zero m a q l = refl
-take_again (suc n) m a q l = ap (λ u. a ∷ u) (take-take n m q (omega arith))
-
-reverse_push : (q : List ℕ) (a : ℕ) → reverse (q ++ a ∷ []) ≡ a ∷ reverse q
-reverse_push q a = reverse-append q (a ∷ [])
+take_again : (m a : ℕ) (q : List ℕ) → take m (a ∷ take m q) ≡ take m (a ∷ q)
+take_again m a q = grind (arith, common_steps, take-take)
 
 module _ (edge : Edge) (h : ℕ) where
   -- The memberships of some courses as bits, the newest course first.
@@ -39,25 +32,21 @@ module _ (edge : Edge) (h : ℕ) where
   code_cut zero q = omega arith
   code_cut (suc m) [] = zero-mod (2 ^ suc m)
   code_cut (suc m) (a ∷ q) =
-      let b = bit (member edge h a) in
-      let n : ℕ = 2 * code q + b in
-      let s : b < 2 = bit_small (member edge h a) in
+      let n : ℕ = 2 * code q + bit (member edge h a) in
+      let s = bit_small (member edge h a) in
       let half : n / 2 ≡ code q = omega arith in
-      let low : n % 2 ≡ b = omega arith in
       ap (λ e. n % 2 ^ e) (sym (add-one m)) ∙ mod-pow-add n m 1 ∙ ap (λ v. (v % 2 ^ m) * 2 + n % 2) half ∙ omega (arith, code_cut m q)
 
   code_ones : (q : List ℕ) → ones (code q) ≡ members edge h q
   code_ones [] = omega (arith, ones-le 0 0 (pow_pos 0))
   code_ones (a ∷ q) =
-      let b = bit (member edge h a) in
-      let n : ℕ = 2 * code q + b in
-      let s : b < 2 = bit_small (member edge h a) in
+      let n : ℕ = 2 * code q + bit (member edge h a) in
+      let s = bit_small (member edge h a) in
       let half : n / 2 ≡ code q = omega arith in
-      let low : n % 2 ≡ b = omega arith in
       omega (arith, ones_step n, ap ones half, code_ones q)
 
   code_next : (m a : ℕ) (q : List ℕ) → (2 * code (take m q) + bit (member edge h a)) % 2 ^ m ≡ code (take m (a ∷ q))
-  code_next m a q = code_cut m (a ∷ take m q) ∙ ap code (take_again m m a q (omega arith))
+  code_next m a q = code_cut m (a ∷ take m q) ∙ ap code (take_again m a q)
 
   code_below : (m : ℕ) (q : List ℕ) → code (take m q) < 2 ^ m
   code_below m q = omega (arith, code_cut m q, mod_below (code q) (2 ^ m) (pow_pos m))
@@ -70,36 +59,33 @@ module _ (edge : Edge) (h : ℕ) where
   members_last : (q : List ℕ) (m : ℕ) → members edge h (take m (reverse q)) ≡ members edge h (last m q)
   members_last =
       by_last (λ q. (m : ℕ) → members edge h (take m (reverse q)) ≡ members edge h (last m q))
-      (λ m. ap (members edge h) (take_none m) ∙ ap (members edge h) (sym (drop_all (0 - m) [] (omega arith))))
+      (λ m. ap (members edge h) (take-nil m) ∙ ap (members edge h) (sym (drop_all (0 - m) [] (omega arith))))
       more
     where
       more : (q : List ℕ) (a : ℕ) → ((m : ℕ) → members edge h (take m (reverse q)) ≡ members edge h (last m q)) → (m : ℕ) → members edge h (take m (reverse (q ++ a ∷ []))) ≡ members edge h (last m (q ++ a ∷ []))
       more q a ih zero = ap (members edge h) (sym (drop_all (length (q ++ a ∷ []) - 0) (q ++ a ∷ []) (omega arith)))
       more q a ih (suc m) =
           let cut : length (q ++ a ∷ []) - suc m ≡ length q - m = omega (arith, length_push q a) in
-          ap (λ u. members edge h (take (suc m) u)) (reverse_push q a)
+          ap (λ u. members edge h (take (suc m) u)) (reverse-append q (a ∷ []))
           ∙ omega (arith, ih m, members_push (last m q) a)
           ∙ sym (ap (members edge h) (ap (λ i. drop i (q ++ a ∷ [])) cut ∙ drop-append-le (length q - m) q (a ∷ []) (omega arith)))
 
 module _ (k m : ℕ) (edge : Edge) (h : ℕ) (lo : 1 ≤ h) (hi : h ≤ 1023) where
-  states : cond (valid h) (2 ^ m) 0 ≡ 2 ^ m
-  states = cond-true _ _ 0 (in_range_valid h lo hi)
-
   inside : (q : List ℕ) → ltb (code edge h (take m q)) (cond (valid h) (2 ^ m) 0) ≡ true
-  inside q = lt-ltb _ _ (omega (arith, states, code_below edge h m q))
+  inside q = grind (arith, nat_tests, code_below edge h m q)
 
   -- The state after a sequence has the memberships of its last m symbols.
   state_is : (q : List ℕ) → Symbols 16 q → end_state (zone k m edge).moves h q ≡ code edge h (take m (reverse q))
   state_is =
       by_last (λ q. Symbols 16 q → end_state (zone k m edge).moves h q ≡ code edge h (take m (reverse q)))
-      (λ y. ap (code edge h) (sym (take_none m)))
+      (λ y. ap (code edge h) (sym (take-nil m)))
       (λ q a ih y.
       let past = symbols_last 16 q a y in
-      run_push (zone k m edge).moves h 0 q a
+      end_push (zone k m edge).moves h q a
       ∙ ap (λ s. (zone k m edge).moves.step h s a) (ih past.0)
       ∙ cond-true _ _ 0 (and_from _ _ (inside (reverse q)) (lt-ltb a 16 past.1))
       ∙ code_next edge h m a (reverse q)
-      ∙ ap (λ u. code edge h (take m u)) (sym (reverse_push q a)))
+      ∙ ap (λ u. code edge h (take m u)) (sym (reverse-append q (a ∷ []))))
 
   alarm_is : (q : List ℕ) → Symbols 16 q → alarms_after (zone k m edge).moves h q ≡ leb k (members edge h (last m q))
   alarm_is q y =
@@ -109,8 +95,5 @@ module _ (k m : ℕ) (edge : Edge) (h : ℕ) (lo : 1 ≤ h) (hi : h ≤ 1023) wh
 
 pub zone_alarms : (k m : ℕ) (edge : Edge) → AlarmsByMembers k m edge (zone k m edge).moves
 zone_alarms k m edge = record {
-  exactly = λ h lo hi q y. (
-    λ e. leb-true k _ (sym (alarm_is k m edge h lo hi q y) ∙ e),
-    λ l. alarm_is k m edge h lo hi q y ∙ le-leb k _ l,
-  );
+  exactly = λ h lo hi q y. let is = alarm_is k m edge h lo hi q y in (λ e. grind (arith, nat_tests), λ l. grind (arith, nat_tests));
 }

@@ -1,10 +1,10 @@
 -- Lemmas on the ranges, for the proofs that charts owe what every chart owes.
 use Rattle.std.specs.Prelude.{◌≡◌, ℕ, ◌<◌, ◌≤◌, Bool, true, false, cond, List, [], ◌∷◌, nat_le, nat_lt, refl}
-use Rattle.std.proofs.Common.{⊎_elim, arith}
-use Rattle.std.proofs.lemmas.Bool.{cases_lt, le-ltb, le-leb, leb-true, cond-false, and_from, and_left, and_right, and_parts}
+use Rattle.std.proofs.Common.{arith}
+use Rattle.std.proofs.lemmas.Bool.{le-ltb, le-leb, leb-true, cond-false, and_from, and_left, and_right, and_parts}
 use Rattle.charts.specs.Meaning.{Meaning, Sound}
 use Rattle.charts.specs.Ranges.{valid, within}
-use Rattle.charts.specs.Runs.{run_from}
+use Rattle.charts.specs.Runs.{run_from, end_state}
 
 -- A number that a test lets through, else 0.
 pub guarded_below : (b : Bool) (u n : ℕ) → u < n → cond b u 0 < n
@@ -38,10 +38,13 @@ past_symbol n s a u l = cond-false _ u 0 (and_right (nat_lt s n) (nat_lt a 16) (
 
 -- A step from a state stays below the count, whatever the symbol.
 pub step_stays : (m : Meaning) → Sound m → (h s a : ℕ) → s < m.count h → m.moves.step h s a < m.count h
-step_stays m sound h s a l =
-    ⊎_elim (λ b. sound.step_below h s a l b) (λ past. omega (arith, sound.step_symbol h s a past)) (cases_lt a 16)
+step_stays m sound h s a l = grind (arith, sound.step_below h s a l, sound.step_symbol h s a)
 
 -- A run from a state below the count ends below it.
 pub run_stays : (p : Meaning) → Sound p → (h s : ℕ) (q : List ℕ) → s < p.count h → run_from p.moves h s q < p.count h
 run_stays p sp h s [] l = l
 run_stays p sp h s (a ∷ q) l = run_stays p sp h _ q (step_stays p sp h s a l)
+
+-- Where a chart has states, it ends each sequence in one of them.
+pub end_below : (p : Meaning) → Sound p → (h : ℕ) (q : List ℕ) → 0 < p.count h → end_state p.moves h q < p.count h
+end_below p sp h q l = run_stays p sp h _ q (sp.start_below h l)

@@ -16,6 +16,7 @@ pub struct Cusum {
 impl Cusum {
     // The cusum of these scores. It stops a sequence exactly when the scores of some block of
     // consecutive courses add up to the limit or more.
+    #[tactic(auto, using(crate::proofs::CusumBlocks::cusum_stops))]
     pub fn new(scores: Scores) -> Cusum
         ensures holds { result.scores ≡ scores }
         ensures law { StopsByBlocks scores.values (cusum result.scores.values).moves }
@@ -41,8 +42,8 @@ impl Chart for Cusum {
         if !is_valid(limit) || state > limit || symbol >= SYMBOLS {
             return 0;
         }
-        let sum = state as i32 + i32::from(self.scores.values[symbol as usize]);
-        if sum < 0 { 0 } else { limit.min(sum as u32) }
+        let score = self.scores.values[usize::from(symbol)];
+        limit.min(state.saturating_add_signed(i32::from(score)))
     }
 
     fn alarm(&self, limit: u32, state: u32) -> bool {

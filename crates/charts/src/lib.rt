@@ -2,6 +2,7 @@
 #![tactic(auto)]
 
 mod chart;
+mod checks;
 mod cusum;
 mod edge;
 mod ranges;
@@ -11,9 +12,10 @@ mod zone;
 mod zone_parameters;
 
 pub use chart::Chart;
+pub use checks::check_range;
 pub use cusum::Cusum;
 pub use edge::Edge;
-pub use ranges::{MAX_LIMIT, MAX_STATES, SYMBOLS};
+pub use ranges::{MAX_LIMIT, MAX_STATES, SYMBOLS, is_valid};
 pub use refusal::Refusal;
 pub use scores::Scores;
 pub use zone::Zone;

@@ -12,8 +12,8 @@ pub const MAX_STATES: u32 = 1024;
 pub const MAX_LIMIT: u32 = 1023;
 
 // Whether a chart may have states at the limit.
-pub(crate) fn is_valid(limit: u32) -> bool
+pub fn is_valid(limit: u32) -> bool
     ensures { result ≡ valid limit }
 {
-    1 <= limit && limit <= MAX_LIMIT
+    (1..=MAX_LIMIT).contains(&limit)
 }

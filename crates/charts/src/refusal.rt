@@ -5,9 +5,9 @@ ghost use Rattle.charts.specs.Refusal.{number as number_of};
 #[derive(Clone, Copy, PartialEq, Eq, Debug)]
 pub enum Refusal {
     // a number outside its range
-    OutOfRange,
+    OutOfRange = 23,
     // a zone rule that asks for more members than it looks at courses
-    HitsAboveWindow,
+    HitsAboveWindow = 27,
 }
 
 impl Refusal {
@@ -15,9 +15,6 @@ impl Refusal {
     pub fn number(self) -> u32
         ensures { result ≡ number_of self }
     {
-        match self {
-            Refusal::OutOfRange => 23,
-            Refusal::HitsAboveWindow => 27,
-        }
+        self as u32
     }
 }

@@ -23,12 +23,9 @@ fn in_range(values: &[i8; 16]) -> bool
     ensures all { result ≡ true → (k : ℕ) → (negsuc 7 ≤ℤ slice_index_or values.now k (pos 0)) × (slice_index_or values.now k (pos 0) ≤ℤ pos 8) }
     ensures some { result ≡ false → Outside values.now }
 {
-    for score in values {
-        if *score < LOWEST || *score > HIGHEST {
-            return false;
-        }
-    }
-    true
+    values
+        .iter()
+        .all(|score| (LOWEST..=HIGHEST).contains(score))
 }
 
 impl Scores {

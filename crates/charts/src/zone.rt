@@ -1,12 +1,10 @@
 // The zone rule: an alarm when enough of the last courses are in the zone.
 ghost use Rattle.std.specs.Prelude.{◌≡◌};
-ghost use Rattle.charts.specs.Edge.{member};
 ghost use Rattle.charts.specs.Zone.{zone};
 ghost use Rattle.charts.specs.ZoneLaw.{AlarmsByMembers};
 ghost use Rattle.charts.specs.ZoneSound.{zone_sound};
 
 use crate::chart::Chart;
-use crate::edge::Edge;
 use crate::ranges::{SYMBOLS, is_valid};
 use crate::zone_parameters::ZoneParameters;
 
@@ -18,21 +16,12 @@ pub struct Zone {
 impl Zone {
     // The zone rule of these parameters. It alarms after a sequence exactly when at least k of the
     // last m symbols are members.
+    #[tactic(auto, using(crate::proofs::ZoneMembers::zone_alarms))]
     pub fn new(parameters: ZoneParameters) -> Zone
         ensures holds { result.parameters ≡ parameters }
         ensures law { AlarmsByMembers parameters.hits parameters.window parameters.edge (zone result.parameters.hits result.parameters.window result.parameters.edge).moves }
     {
         Zone { parameters }
-    }
-}
-
-// Whether a symbol is a member: at or above the edge.
-fn is_member(edge: Edge, limit: u32, symbol: u8) -> bool
-    ensures { result ≡ member edge limit symbol }
-{
-    match edge {
-        Edge::At(least) => symbol >= least,
-        Edge::Limit => u32::from(symbol) >= limit,
     }
 }
 
@@ -58,11 +47,7 @@ impl Chart for Zone {
         if state >= states || symbol >= SYMBOLS {
             return 0;
         }
-        let member = if is_member(self.parameters.edge, limit, symbol) {
-            1
-        } else {
-            0
-        };
+        let member = u32::from(self.parameters.edge.is_member(limit, symbol));
         (2 * state + member) % states
     }
 

@@ -5,12 +5,11 @@ ghost use Rattle.charts.specs.Edge.{edge_fits};
 ghost use Rattle.charts.specs.Refusal.{number};
 ghost use Rattle.charts.specs.Zone.{zone_checks};
 
+use crate::checks::check_range;
 use crate::edge::Edge;
 use crate::refusal::Refusal;
 
 const MAX_WINDOW: u8 = 8;
-
-const MAX_EDGE: u8 = 16;
 
 // How many members of how many last courses alarm, and where the zone begins: k, m and the edge, with
 // 1 <= k <= m <= 8, and an edge from 0 to 16 or at the limit.
@@ -25,31 +24,17 @@ pub struct ZoneParameters {
     ghost fits: { edge_fits edge ≡ true },
 }
 
-// Whether an edge is in range.
-fn fits(edge: Edge) -> bool
-    ensures { result ≡ edge_fits edge }
-{
-    match edge {
-        Edge::At(symbol) => symbol <= MAX_EDGE,
-        Edge::Limit => true,
-    }
-}
-
 impl ZoneParameters {
     // Refuses a number out of range, and k above m; else holds the parameters.
     pub fn new(hits: u8, window: u8, edge: Edge) -> Result<ZoneParameters, Refusal>
         ensures { Checked number (zone_checks hits window edge) (Unit {0}) (λ z. (z.hits ≡ hits) × (z.window ≡ window) × (z.edge ≡ edge)) result }
     {
-        if hits < 1 || hits > MAX_WINDOW {
-            return Err(Refusal::OutOfRange);
-        }
-        if window < 1 || window > MAX_WINDOW {
-            return Err(Refusal::OutOfRange);
-        }
+        check_range(hits, 1, MAX_WINDOW)?;
+        check_range(window, 1, MAX_WINDOW)?;
         if hits > window {
             return Err(Refusal::HitsAboveWindow);
         }
-        if !fits(edge) {
+        if !edge.fits() {
             return Err(Refusal::OutOfRange);
         }
         Ok(ZoneParameters { hits, window, edge })

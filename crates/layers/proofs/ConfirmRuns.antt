@@ -1,11 +1,12 @@
 -- A confirmation alarms exactly when the states below after each of the last c courses alarm.
 use Rattle.std.proofs.Common.{◌≡◌, ℕ, zero, suc, ◌+◌, ◌-◌, ◌<◌, ◌≤◌, min, Bool, true, false, cond, eqb, ◌⊎◌, List, [], ◌∷◌, ◌++◌, length, take, sym, refl, ap, ◌∙◌, inl, inr, ⊎_elim, arith}
 use Rattle.std.proofs.lemmas.List.{length_push, take_all, take-append-le}
-use Rattle.std.proofs.lemmas.Bool.{cases_eq, eq-eqb, eqb-true, both_ways}
+use Rattle.std.proofs.lemmas.Bool.{eqb-true}
+use Rattle.std.proofs.lemmas.Bool.Decides.{nat_tests}
 use Rattle.charts.specs.Meaning.{Moves, Meaning, Sound}
-use Rattle.charts.specs.RangesSound.{run_stays}
+use Rattle.charts.specs.RangesSound.{end_below}
 use Rattle.charts.specs.Runs.{Symbols, end_state, alarms_after}
-use Rattle.charts.proofs.RunsByLast.{by_last, symbols_last, run_push}
+use Rattle.charts.proofs.RunsByLast.{by_last, symbols_last, end_push}
 use Rattle.layers.specs.Confirm.{in_a_row, confirm}
 use Rattle.layers.specs.ConfirmLaw.{Confirmed, AlarmsInARow}
 use Rattle.layers.specs.PairsSound.{parts}
@@ -17,9 +18,6 @@ but_push q a i =
     let cut : length (q ++ a ∷ []) - suc i ≡ length q - i = omega (arith, length_push q a) in
     ap (λ n. take n (q ++ a ∷ [])) cut ∙ take-append-le (length q - i) q (a ∷ []) (omega arith)
 
-but_none : (q : List ℕ) → take (length q - 0) q ≡ q
-but_none q = take_all (length q - 0) q (omega arith)
-
 module _ (c : ℕ) (m : Moves) (h : ℕ) where
   -- The last j courses of q are those of its last row of alarms, of which at most c are counted.
   record Row (q : List ℕ) (j : ℕ) : Type 0 where
@@ -29,7 +27,7 @@ module _ (c : ℕ) (m : Moves) (h : ℕ) where
     broken : j < c → (j ≡ length q) ⊎ (alarms_after m h (take (length q - j) q) ≡ false)
 
   grown_alarmed : (q : List ℕ) (a j : ℕ) → Row q j → alarms_after m h (q ++ a ∷ []) ≡ true → (i : ℕ) → i < min (j + 1) c → alarms_after m h (take (length (q ++ a ∷ []) - i) (q ++ a ∷ [])) ≡ true
-  grown_alarmed q a j r e zero l = ap (alarms_after m h) (but_none (q ++ a ∷ [])) ∙ e
+  grown_alarmed q a j r e zero l = ap (alarms_after m h) (take_all _ (q ++ a ∷ []) (omega arith)) ∙ e
   grown_alarmed q a j r e (suc i) l = ap (alarms_after m h) (but_push q a i) ∙ r.alarmed i (omega arith)
 
   row_push : (q : List ℕ) (a j : ℕ) → Row q j → (f : Bool) → alarms_after m h (q ++ a ∷ []) ≡ f → Row (q ++ a ∷ []) (cond f (min (j + 1) c) 0)
@@ -48,7 +46,7 @@ module _ (c : ℕ) (m : Moves) (h : ℕ) where
     most = omega arith;
     long = omega arith;
     alarmed = λ i l. absurd (omega arith);
-    broken = λ l. inr (ap (alarms_after m h) (but_none (q ++ a ∷ [])) ∙ e);
+    broken = λ l. inr (ap (alarms_after m h) (take_all _ (q ++ a ∷ []) (omega arith)) ∙ e);
   }
 
   row_none : Row [] 0
@@ -62,21 +60,15 @@ module _ (c : ℕ) (m : Moves) (h : ℕ) where
 
   confirmed_row : (q : List ℕ) (j : ℕ) → Row q j → Confirmed c m h q → eqb j c ≡ true
   confirmed_row q j r d =
-      let k = r.most in
+      let most = r.most in
       let long = d.enough in
-      ⊎_elim
-      (λ e. eq-eqb j c e)
-      (λ ne.
-      let short : j < c = omega arith in
-      ⊎_elim
-      (λ all. absurd (omega arith))
-      (λ quiet. absurd (both_ways _ quiet (d.each j short)))
-      (r.broken short))
-      (cases_eq j c)
+      let broken = r.broken in
+      let each = d.each j in
+      grind (arith, nat_tests)
 
 module _ (c : ℕ) (p : Meaning) (sp : Sound p) (h : ℕ) (some : 0 < (confirm c p).count h) where
   below : (q : List ℕ) → end_state p.moves h q < p.count h
-  below q = run_stays p sp h _ q (sp.start_below h (parts (p.count h) (c + 1) 0 some).left_some)
+  below q = end_below p sp h q (parts (p.count h) (c + 1) 0 some).left_some
 
   -- The state after q has the state below and the length of the last row.
   record After (q : List ℕ) : Type 0 where
@@ -97,11 +89,11 @@ module _ (c : ℕ) (p : Meaning) (sp : Sound p) (h : ℕ) (some : 0 < (confirm c
       record {
         row = row;
         is =
-            run_push (confirm c p).moves h _ q a
+            end_push (confirm c p).moves h q a
             ∙ ap (λ s. (confirm c p).moves.step h s a) r.is
             ∙ code_step (in_a_row c p) h some _ r.row a (below q) (omega arith) past.1
-            ∙ ap (λ x. code (in_a_row c p) h some x row) (sym (run_push p.moves h _ q a));
-        so = row_push c p.moves h q a r.row r.so (p.moves.alarm h next) (ap (p.moves.alarm h) (run_push p.moves h _ q a));
+            ∙ ap (λ x. code (in_a_row c p) h some x row) (sym (end_push p.moves h q a));
+        so = row_push c p.moves h q a r.row r.so (p.moves.alarm h next) (ap (p.moves.alarm h) (end_push p.moves h q a));
       })
 
   alarm_is : (q : List ℕ) (r : After q) → alarms_after (confirm c p).moves h q ≡ eqb r.row c

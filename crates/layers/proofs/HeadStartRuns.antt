@@ -4,7 +4,7 @@ use Rattle.std.proofs.lemmas.List.{replicate_more}
 use Rattle.std.proofs.lemmas.Bool.{or_cases, or_left, or_right, false≢true}
 use Rattle.charts.specs.Meaning.{Moves, Meaning}
 use Rattle.charts.specs.Runs.{run_from, end_state, alarms_after, stops_from, AlarmsWithin}
-use Rattle.charts.proofs.RunsByLast.{run_push}
+use Rattle.charts.proofs.RunsByLast.{end_push}
 use Rattle.layers.specs.HeadStart.{head_start}
 use Rattle.layers.specs.HeadStartLaw.{Led}
 
@@ -15,20 +15,16 @@ run_append m h s (a ∷ p) q = run_append m h _ p q
 -- One read of the symbol more.
 pub read_more : (m : Moves) (h a n s : ℕ) → s ≡ end_state m h (replicate n a) → m.step h s a ≡ end_state m h (replicate (n + 1) a)
 read_more m h a n s e =
-    ap (λ t. m.step h t a) e ∙ sym (run_push m h (m.start h) (replicate n a) a) ∙ ap (end_state m h) (replicate_more n a)
+    ap (λ t. m.step h t a) e ∙ sym (end_push m h (replicate n a) a) ∙ ap (end_state m h) (replicate_more n a)
 
 module _ (m : Moves) (h : ℕ) where
-  -- After some courses and one more, the state is a step on.
-  end_push : (first : List ℕ) (a : ℕ) → end_state m h (first ++ a ∷ []) ≡ m.step h (end_state m h first) a
-  end_push first a = run_push m h (m.start h) first a
-
   found : (q first : List ℕ) → stops_from m h (end_state m h first) q ≡ true → AlarmsWithin m h first q
   found [] first e = absurd (false≢true e)
   found (a ∷ q) first e =
       ⊎_elim
-      (λ here. record { front = []; symbol = a; rest = q; is = refl; alarms = ap (m.alarm h) (end_push first a) ∙ here })
+      (λ here. record { front = []; symbol = a; rest = q; is = refl; alarms = ap (m.alarm h) (end_push m h first a) ∙ here })
       (λ later.
-      let r = found q (first ++ a ∷ []) (ap (λ s. stops_from m h s q) (end_push first a) ∙ later) in
+      let r = found q (first ++ a ∷ []) (ap (λ s. stops_from m h s q) (end_push m h first a) ∙ later) in
       record {
         front = a ∷ r.front;
         symbol = r.symbol;
@@ -40,10 +36,10 @@ module _ (m : Moves) (h : ℕ) where
 
   -- An alarm after a front of the courses stops the sequence.
   stops_at : (front first : List ℕ) (a : ℕ) (rest : List ℕ) → alarms_after m h (first ++ (front ++ a ∷ [])) ≡ true → stops_from m h (end_state m h first) (front ++ a ∷ rest) ≡ true
-  stops_at [] first a rest e = or_left _ _ (sym (ap (m.alarm h) (end_push first a)) ∙ e)
+  stops_at [] first a rest e = or_left _ _ (sym (ap (m.alarm h) (end_push m h first a)) ∙ e)
   stops_at (b ∷ front) first a rest e =
       or_right _ _
-      (sym (ap (λ s. stops_from m h s (front ++ a ∷ rest)) (end_push first b))
+      (sym (ap (λ s. stops_from m h s (front ++ a ∷ rest)) (end_push m h first b))
       ∙ stops_at front (first ++ b ∷ []) a rest (ap (alarms_after m h) (append_assoc first (b ∷ []) (front ++ a ∷ [])) ∙ e))
 
 module _ (a n : ℕ) (p : Meaning) (h : ℕ) where

@@ -1,16 +1,13 @@
 -- A reset ends where the chart below does after only the symbols since its latest alarm.
-use Rattle.std.proofs.Common.{◌≡◌, ℕ, ◌<◌, Bool, true, false, cond, List, [], ◌∷◌, ◌++◌, length, take, drop, sym, refl, ap, ◌∙◌, ⊎_elim, arith}
+use Rattle.std.proofs.Common.{◌≡◌, ℕ, ◌<◌, true, false, List, [], ◌∷◌, ◌++◌, length, take, drop, sym, refl, ap, ◌∙◌, ⊎_elim, arith}
 use Rattle.std.proofs.lemmas.List.{length_push, take_at, take-append-le, drop_at, drop-append-le}
 use Rattle.std.proofs.lemmas.Bool.{cases_lt, cond-true, cond-false}
+use Rattle.std.proofs.lemmas.Bool.Decides.{nat_tests}
 use Rattle.charts.specs.Meaning.{Meaning}
 use Rattle.charts.specs.Runs.{end_state, alarms_after}
-use Rattle.charts.proofs.RunsByLast.{by_last, run_push}
+use Rattle.charts.proofs.RunsByLast.{by_last, end_push}
 use Rattle.layers.specs.Reset.{reset}
 use Rattle.layers.specs.ResetLaw.{QuietSince, LatestAlarm, BeginsAnew}
-
-cond_same : (b : Bool) (x : ℕ) → cond b x x ≡ x
-cond_same true x = refl
-cond_same false x = refl
 
 module _ (p : Meaning) (h : ℕ) where
   -- What is said of a sequence, of its front before one symbol more.
@@ -33,10 +30,10 @@ module _ (p : Meaning) (h : ℕ) where
 
   -- A step from a state, by whether that alarms.
   step_quiet : (q : List ℕ) (a : ℕ) → alarms_after (reset p).moves h q ≡ false → end_state (reset p).moves h (q ++ a ∷ []) ≡ p.moves.step h (end_state (reset p).moves h q) a
-  step_quiet q a f = run_push (reset p).moves h _ q a ∙ ap (λ s. p.moves.step h s a) (cond-false _ _ _ f)
+  step_quiet q a f = end_push (reset p).moves h q a ∙ ap (λ s. p.moves.step h s a) (cond-false _ _ _ f)
 
   step_alarm : (q : List ℕ) (a : ℕ) → alarms_after (reset p).moves h q ≡ true → end_state (reset p).moves h (q ++ a ∷ []) ≡ end_state p.moves h (a ∷ [])
-  step_alarm q a t = run_push (reset p).moves h _ q a ∙ ap (λ s. p.moves.step h s a) (cond-true _ _ _ t)
+  step_alarm q a t = end_push (reset p).moves h q a ∙ ap (λ s. p.moves.step h s a) (cond-true _ _ _ t)
 
   record Anew (q : List ℕ) : Type 0 where
     since : (i : ℕ) → LatestAlarm i (reset p).moves h q → end_state (reset p).moves h q ≡ end_state p.moves h (drop i q)
@@ -48,7 +45,7 @@ module _ (p : Meaning) (h : ℕ) where
       (λ before.
       step_quiet q a (sym (front_alarm (length q) q a refl) ∙ r.quiet (length q) before (omega (arith, length_push q a)))
       ∙ ap (λ s. p.moves.step h s a) (ih.since i (latest_front i q a before r))
-      ∙ sym (run_push p.moves h _ (drop i q) a)
+      ∙ sym (end_push p.moves h (drop i q) a)
       ∙ ap (end_state p.moves h) (sym (drop-append-le i q (a ∷ []) (omega arith))))
       (λ past.
       let b = r.before_last in
@@ -58,11 +55,11 @@ module _ (p : Meaning) (h : ℕ) where
       (cases_lt i (length q))
 
   whole_push : (q : List ℕ) (a : ℕ) → Anew q → QuietSince 0 (reset p).moves h (q ++ a ∷ []) → end_state (reset p).moves h (q ++ a ∷ []) ≡ end_state p.moves h (q ++ a ∷ [])
-  whole_push [] a ih quiet = ap (λ s. p.moves.step h s a) (cond_same (p.moves.alarm h (p.moves.start h)) (p.moves.start h))
+  whole_push [] a ih quiet = grind (arith, nat_tests)
   whole_push (b ∷ q) a ih quiet =
       step_quiet (b ∷ q) a (sym (front_alarm (length (b ∷ q)) (b ∷ q) a refl) ∙ quiet (length (b ∷ q)) (omega arith) (omega (arith, length_push (b ∷ q) a)))
       ∙ ap (λ s. p.moves.step h s a) (ih.whole (quiet_front 0 (b ∷ q) a quiet))
-      ∙ sym (run_push p.moves h _ (b ∷ q) a)
+      ∙ sym (end_push p.moves h (b ∷ q) a)
 
   anew : (q : List ℕ) → Anew q
   anew =

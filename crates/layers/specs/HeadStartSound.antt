@@ -2,7 +2,7 @@
 use Rattle.std.specs.Prelude.{◌≡◌, ℕ, List, [], ◌∷◌, replicate}
 use Rattle.std.proofs.Common.{arith}
 use Rattle.charts.specs.Meaning.{Meaning, Sound}
-use Rattle.charts.specs.RangesSound.{run_stays}
+use Rattle.charts.specs.RangesSound.{end_below}
 use Rattle.charts.specs.Runs.{run_from}
 use Rattle.layers.specs.HeadStart.{head_start}
 
@@ -15,7 +15,7 @@ pub head_start_sound : (a n : ℕ) (p : Meaning) → Sound p → Sound (head_sta
 head_start_sound a n p sp = record {
   count_most = sp.count_most;
   count_range = sp.count_range;
-  start_below = λ h l. run_stays p sp h _ (replicate n a) (sp.start_below h l);
+  start_below = λ h l. end_below p sp h (replicate n a) l;
   start_none = λ h e. run_none p sp h _ (replicate n a) e (sp.start_none h e);
   step_below = sp.step_below;
   step_past = sp.step_past;

@@ -4,7 +4,7 @@ ghost use Rattle.layers.specs.Confirm.{confirm};
 ghost use Rattle.layers.specs.ConfirmLaw.{AlarmsInARow};
 ghost use Rattle.layers.specs.ConfirmSound.{confirm_sound};
 
-use crate::pairs::pair_count;
+use crate::pairs::Pairs;
 use crate::repeats::Repeats;
 use charts::{Chart, SYMBOLS};
 
@@ -23,6 +23,17 @@ impl<C: Chart> Confirm<C> {
     {
         Confirm { repeats, below }
     }
+
+    // The pairs of a state below and the length of the last row of alarms.
+    fn pairs(&self, limit: u32) -> Pairs
+        ensures left { result.left ≡ (C.Chart.meaning self.now.below).count limit }
+        ensures right { result.right ≡ self.now.repeats.times + 1 }
+    {
+        Pairs {
+            left: self.below.count(limit),
+            right: u32::from(self.repeats.times) + 1,
+        }
+    }
 }
 
 // The length of the last row of alarms, at most `most`, after a course that alarmed or not.
@@ -39,28 +50,34 @@ impl<C: Chart> Chart for Confirm<C> {
     ghost sound = { λ c. confirm_sound c.repeats.times (C.Chart.meaning c.below) (C.Chart.sound c.below) };
 
     fn count(&self, limit: u32) -> u32 {
-        pair_count(self.below.count(limit), u32::from(self.repeats.times) + 1)
+        self.pairs(limit).count()
     }
 
     fn start(&self, limit: u32) -> u32 {
-        if self.count(limit) == 0 {
+        let pairs = self.pairs(limit);
+        if pairs.count() == 0 {
             return 0;
         }
-        self.below.start(limit) * (u32::from(self.repeats.times) + 1)
+        pairs.code(self.below.start(limit), 0)
     }
 
     fn step(&self, limit: u32, state: u32, symbol: u8) -> u32 {
-        if state >= self.count(limit) || symbol >= SYMBOLS {
+        if symbol >= SYMBOLS {
             return 0;
         }
-        let times = u32::from(self.repeats.times);
-        let next = self.below.step(limit, state / (times + 1), symbol);
-        let row = row_after(state % (times + 1), self.below.alarm(limit, next), times);
-        next * (times + 1) + row
+        let pairs = self.pairs(limit);
+        let Some((below, row)) = pairs.parts(state) else {
+            return 0;
+        };
+        let next = self.below.step(limit, below, symbol);
+        let alarmed = self.below.alarm(limit, next);
+        pairs.code(next, row_after(row, alarmed, u32::from(self.repeats.times)))
     }
 
     fn alarm(&self, limit: u32, state: u32) -> bool {
-        let times = u32::from(self.repeats.times);
-        state < self.count(limit) && state % (times + 1) == times
+        let Some((_, row)) = self.pairs(limit).parts(state) else {
+            return false;
+        };
+        row == u32::from(self.repeats.times)
     }
 }

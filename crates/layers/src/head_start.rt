@@ -16,6 +16,7 @@ pub struct HeadStart<C> {
 impl<C: Chart> HeadStart<C> {
     // The chart below with a head start. It stops and ends as the chart below does after reading the
     // lead first; alarms during the lead are not looked at.
+    #[tactic(auto, using(crate::proofs::HeadStartRuns::head_start_led))]
     pub fn new(lead: Lead, below: C) -> HeadStart<C>
         ensures holds { (result.lead ≡ lead) × (result.below ≡ below) }
         ensures law { Led lead.symbol lead.reads (C.Chart.meaning below).moves (head_start result.lead.symbol result.lead.reads (C.Chart.meaning result.below)).moves }
@@ -33,6 +34,7 @@ impl<C: Chart> Chart for HeadStart<C> {
         self.below.count(limit)
     }
 
+    #[tactic(auto, using(crate::proofs::HeadStartRuns::read_more))]
     fn start(&self, limit: u32) -> u32 {
         let mut state = self.below.start(limit);
         for _read in 0..self.lead.reads {

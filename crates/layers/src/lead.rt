@@ -4,7 +4,7 @@ ghost use Rattle.charts.specs.Checks.{Checked};
 ghost use Rattle.charts.specs.Refusal.{number};
 ghost use Rattle.layers.specs.HeadStart.{lead_checks};
 
-use charts::{Refusal, SYMBOLS};
+use charts::{Refusal, SYMBOLS, check_range};
 
 const MAX_READS: u8 = 32;
 
@@ -22,12 +22,8 @@ impl Lead {
     pub fn new(symbol: u8, reads: u8) -> Result<Lead, Refusal>
         ensures { Checked number (lead_checks symbol reads) (Unit {0}) (λ l. (l.symbol ≡ symbol) × (l.reads ≡ reads)) result }
     {
-        if symbol >= SYMBOLS {
-            return Err(Refusal::OutOfRange);
-        }
-        if reads > MAX_READS {
-            return Err(Refusal::OutOfRange);
-        }
+        check_range(symbol, 0, SYMBOLS - 1)?;
+        check_range(reads, 0, MAX_READS)?;
         Ok(Lead { symbol, reads })
     }
 }

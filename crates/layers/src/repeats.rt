@@ -4,7 +4,7 @@ ghost use Rattle.charts.specs.Checks.{Checked};
 ghost use Rattle.charts.specs.Refusal.{number};
 ghost use Rattle.layers.specs.Confirm.{repeats_checks};
 
-use charts::Refusal;
+use charts::{Refusal, check_range};
 
 const MAX_TIMES: u8 = 8;
 
@@ -21,9 +21,7 @@ impl Repeats {
     pub fn new(times: u8) -> Result<Repeats, Refusal>
         ensures { Checked number (repeats_checks times) (Unit {0}) (λ c. c.times ≡ times) result }
     {
-        if times < 1 || times > MAX_TIMES {
-            return Err(Refusal::OutOfRange);
-        }
+        check_range(times, 1, MAX_TIMES)?;
         Ok(Repeats { times })
     }
 }

@@ -14,6 +14,7 @@ pub struct Reset<C> {
 impl<C: Chart> Reset<C> {
     // The chart below with a reset. After a sequence it is where the chart below is after reading only
     // the symbols that follow the latest course before the last at which it alarmed.
+    #[tactic(auto, using(crate::proofs::ResetRuns::reset_begins_anew))]
     pub fn new(below: C) -> Reset<C>
         ensures holds { result.below ≡ below }
         ensures law { BeginsAnew (C.Chart.meaning below).moves (reset (C.Chart.meaning result.below)).moves }

@@ -4,7 +4,7 @@ ghost use Rattle.layers.specs.Union.{union};
 ghost use Rattle.layers.specs.UnionLaw.{StopsAsEither};
 ghost use Rattle.layers.specs.UnionSound.{union_sound};
 
-use crate::pairs::pair_count;
+use crate::pairs::Pairs;
 use charts::{Chart, SYMBOLS};
 
 #[derive(Clone, Copy, Drop)]
@@ -22,6 +22,17 @@ impl<A: Chart, B: Chart> Union<A, B> {
     {
         Union { first, second }
     }
+
+    // The pairs of the two states.
+    fn pairs(&self, limit: u32) -> Pairs
+        ensures left { result.left ≡ (A.Chart.meaning self.now.first).count limit }
+        ensures right { result.right ≡ (B.Chart.meaning self.now.second).count limit }
+    {
+        Pairs {
+            left: self.first.count(limit),
+            right: self.second.count(limit),
+        }
+    }
 }
 
 impl<A: Chart, B: Chart> Chart for Union<A, B> {
@@ -30,31 +41,34 @@ impl<A: Chart, B: Chart> Chart for Union<A, B> {
     ghost sound = { λ u. union_sound (A.Chart.meaning u.first) (B.Chart.meaning u.second) (A.Chart.sound u.first) (B.Chart.sound u.second) };
 
     fn count(&self, limit: u32) -> u32 {
-        pair_count(self.first.count(limit), self.second.count(limit))
+        self.pairs(limit).count()
     }
 
     fn start(&self, limit: u32) -> u32 {
-        if self.count(limit) == 0 {
+        let pairs = self.pairs(limit);
+        if pairs.count() == 0 {
             return 0;
         }
-        self.first.start(limit) * self.second.count(limit) + self.second.start(limit)
+        pairs.code(self.first.start(limit), self.second.start(limit))
     }
 
     fn step(&self, limit: u32, state: u32, symbol: u8) -> u32 {
-        if state >= self.count(limit) || symbol >= SYMBOLS {
+        if symbol >= SYMBOLS {
             return 0;
         }
-        let width = self.second.count(limit);
-        let first = self.first.step(limit, state / width, symbol);
-        let second = self.second.step(limit, state % width, symbol);
-        first * width + second
+        let pairs = self.pairs(limit);
+        let Some((left, right)) = pairs.parts(state) else {
+            return 0;
+        };
+        let first = self.first.step(limit, left, symbol);
+        let second = self.second.step(limit, right, symbol);
+        pairs.code(first, second)
     }
 
     fn alarm(&self, limit: u32, state: u32) -> bool {
-        if state >= self.count(limit) {
+        let Some((left, right)) = self.pairs(limit).parts(state) else {
             return false;
-        }
-        let width = self.second.count(limit);
-        self.first.alarm(limit, state / width) || self.second.alarm(limit, state % width)
+        };
+        self.first.alarm(limit, left) || self.second.alarm(limit, right)
     }
 }

@@ -1,5 +1,5 @@
 -- The three weight kinds: counts, costs, and yes or no.
-use Rattle.std.specs.Prelude.{ℕ, ◌+◌, ◌-◌, ◌*◌, ◌%◌, ◌^◌, ◌<◌, min, Bool, true, false, ◌&&◌, ◌||◌}
+use Rattle.std.specs.Prelude.{ℕ, ◌+◌, ◌-◌, ◌*◌, ◌%◌, ◌^◌, ◌<◌, min, Bool, true, false, cond, ◌&&◌, ◌||◌, Some, None, Option, ◌==◌}
 use Rattle.std.proofs.Common.{mod-lt, arith, lit<}
 use Rattle.weights.specs.Laws.{Algebra}
 use Rattle.weights.specs.declared.values.Count.{Count}
@@ -38,6 +38,10 @@ costs = record {
   join = λ x y. record { value = min x.value y.value; fits = min_fits x.value y.value x.fits };
   product = λ x y. cost (x.value + y.value);
 }
+
+-- A cost, or none where it is absent.
+abbrev pub present : Cost → Option ℕ
+present c = cond (c.value == 2 ^ 64 - 1) None (Some c.value)
 
 abbrev pub can : Bool → Can
 can b = record { value = b }
