@@ -9,7 +9,7 @@ pub trait Chart {
 
     ghost sound: { (c : Self) → Sound (meaning c) };
 
-    // The state count.
+    // The state count: 0, and not `None`, where it has no states or too many.
     fn count(&self, limit: u32) -> u32
         ensures { result ≡ (meaning self.now).count limit };
 

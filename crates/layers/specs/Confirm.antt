@@ -1,5 +1,5 @@
 -- The meaning of a confirmation, and when its parameter is refused.
-use Rattle.std.specs.Prelude.{ℕ, ◌+◌, min, cond, List, [], ◌∷◌, ◌==◌}
+use Rattle.std.specs.Prelude.{ℕ, ◌+◌, min, if◌then◌else◌, List, [], ◌∷◌, ◌==◌}
 use Rattle.charts.specs.Checks.{Check, ◌if◌, IsOutOfRange}
 use Rattle.charts.specs.Meaning.{Meaning}
 use Rattle.layers.specs.Pairs.{Pairs, coded}
@@ -17,7 +17,7 @@ in_a_row c p = record {
   left_start = p.moves.start;
   right_start = λ h. 0;
   left_step = p.moves.step;
-  right_step = λ h x j a. cond (p.moves.alarm h (p.moves.step h x a)) (min (j + 1) c) 0;
+  right_step = λ h x j a. if p.moves.alarm h (p.moves.step h x a) then min (j + 1) c else 0;
   alarm = λ h x j. (j == c);
 }
 

@@ -1,5 +1,5 @@
 -- Charts whose state is a pair, coded as one number.
-use Rattle.std.specs.Prelude.{ℕ, ◌+◌, ◌*◌, ◌/◌, ◌%◌, Bool, cond, ◌&&◌, nat_le, nat_lt}
+use Rattle.std.specs.Prelude.{ℕ, ◌+◌, ◌*◌, ◌/◌, ◌%◌, Bool, if◌then◌else◌, ◌&&◌, nat_le, nat_lt}
 use Rattle.charts.specs.Meaning.{Meaning}
 use Rattle.charts.specs.Ranges.{within}
 
@@ -17,7 +17,7 @@ pub record Pairs : Type 0 where
 
 -- A number of states as a state count: 0 above 1,024.
 abbrev pub counted : ℕ → ℕ
-counted n = cond (nat_le n 1024) n 0
+counted n = if nat_le n 1024 then n else 0
 
 -- The chart of such pairs: the left state x and the right state y have the code x * W + y, where W is
 -- how many right states there are.
@@ -27,8 +27,8 @@ coded v =
     record {
       count = n;
       moves = record {
-        start = λ h. cond (nat_lt 0 (n h)) (v.left_start h * v.rights h + v.right_start h) 0;
-        step = λ h s a. cond (within (n h) s a) (v.left_step h (s / v.rights h) a * v.rights h + v.right_step h (s / v.rights h) (s % v.rights h) a) 0;
+        start = λ h. if nat_lt 0 (n h) then v.left_start h * v.rights h + v.right_start h else 0;
+        step = λ h s a. if within (n h) s a then v.left_step h (s / v.rights h) a * v.rights h + v.right_step h (s / v.rights h) (s % v.rights h) a else 0;
         alarm = λ h s. nat_lt s (n h) && v.alarm h (s / v.rights h) (s % v.rights h);
       };
     }

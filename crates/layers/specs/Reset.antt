@@ -1,5 +1,5 @@
 -- The meaning of a reset.
-use Rattle.std.specs.Prelude.{cond}
+use Rattle.std.specs.Prelude.{if◌then◌else◌}
 use Rattle.charts.specs.Meaning.{Meaning}
 
 -- A step is the step below, from the start below where the state alarms and from the state elsewhere;
@@ -9,7 +9,7 @@ reset p = record {
   count = p.count;
   moves = record {
     start = p.moves.start;
-    step = λ h s a. p.moves.step h (cond (p.moves.alarm h s) (p.moves.start h) s) a;
+    step = λ h s a. p.moves.step h (if p.moves.alarm h s then p.moves.start h else s) a;
     alarm = p.moves.alarm;
   };
 }

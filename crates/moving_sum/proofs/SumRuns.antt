@@ -3,7 +3,7 @@ use Rattle.std.proofs.Common.{◌≡◌, ℕ, ◌+◌, ◌*◌, ◌/◌, ◌%◌
 use Rattle.std.proofs.lemmas.List.{reverse-append}
 use Rattle.std.proofs.lemmas.Bool.{le-leb, leb-true, lt-ltb, cond-true, and_from}
 use Rattle.charts.specs.Ranges.{valid}
-use Rattle.charts.specs.RangesSound.{in_range_valid}
+use Rattle.std.proofs.lemmas.Bool.Decides.{nat_tests}
 use Rattle.charts.specs.Runs.{Symbols, end_state, alarms_after}
 use Rattle.charts.proofs.RunsByLast.{by_last, symbols_last, run_push}
 use Rattle.moving_sum.specs.MovingSum.{moving_sum, AlarmsBySum}
@@ -22,7 +22,7 @@ two_added (x ∷ y ∷ r) = omega arith
 
 module _ (h : ℕ) (lo : 1 ≤ h) (hi : h ≤ 1023) where
   states : ◌≡◌ {A = ℕ} (cond (valid h) 256 0) 256
-  states = cond-true _ _ 0 (in_range_valid h lo hi)
+  states = grind (arith, nat_tests)
 
   -- The state after a sequence, and that both its symbols are symbols.
   record After (q : List ℕ) : Type 0 where

@@ -1,5 +1,5 @@
 -- The meaning of a moving sum of two courses, and its law over whole sequences.
-use Rattle.std.specs.Prelude.{◌≡◌, ℕ, ◌+◌, ◌*◌, ◌/◌, ◌%◌, ◌≤◌, true, cond, ◌&&◌, ◌↔◌, List, reverse, take, sum, nat_le, nat_lt}
+use Rattle.std.specs.Prelude.{◌≡◌, ℕ, ◌+◌, ◌*◌, ◌/◌, ◌%◌, ◌≤◌, true, if◌then◌else◌, ◌&&◌, ◌↔◌, List, reverse, take, sum, nat_le, nat_lt}
 use Rattle.charts.specs.Meaning.{Meaning, Moves}
 use Rattle.charts.specs.Ranges.{valid, within}
 use Rattle.charts.specs.Runs.{Symbols, alarms_after}
@@ -8,12 +8,12 @@ use Rattle.charts.specs.Runs.{Symbols, alarms_after}
 -- to the limit or more.
 abbrev pub moving_sum : Meaning
 moving_sum =
-    let n : ℕ → ℕ = λ h. cond (valid h) 256 0 in
+    let n : ℕ → ℕ = λ h. if valid h then 256 else 0 in
     record {
       count = n;
       moves = record {
         start = λ h. 0;
-        step = λ h s a. cond (within (n h) s a) (s % 16 * 16 + a) 0;
+        step = λ h s a. if within (n h) s a then s % 16 * 16 + a else 0;
         alarm = λ h s. nat_lt s (n h) && nat_le h (s / 16 + s % 16);
       };
     }

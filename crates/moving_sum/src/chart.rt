@@ -2,7 +2,7 @@
 ghost use Rattle.moving_sum.specs.MovingSum.{moving_sum, AlarmsBySum};
 ghost use Rattle.moving_sum.specs.MovingSumSound.{moving_sum_sound};
 
-use charts::{Chart, MAX_LIMIT, SYMBOLS};
+use charts::{Chart, SYMBOLS, is_valid};
 
 // How much the older of the two symbols adds to a state.
 const OLDER: u32 = 16;
@@ -10,14 +10,15 @@ const OLDER: u32 = 16;
 const STATES: u32 = 256;
 
 #[derive(Clone, Copy)]
-pub struct MovingSum {}
+pub struct MovingSum;
 
 impl MovingSum {
     // It alarms after a sequence exactly when the newest two symbols add up to the limit or more.
+    #[tactic(auto, using(crate::proofs::SumRuns::sum_alarms))]
     pub(crate) fn new() -> MovingSum
         ensures { AlarmsBySum moving_sum.moves }
     {
-        MovingSum {}
+        MovingSum
     }
 }
 
@@ -27,11 +28,7 @@ impl Chart for MovingSum {
     ghost sound = { λ _. moving_sum_sound };
 
     fn count(&self, limit: u32) -> u32 {
-        if 1 <= limit && limit <= MAX_LIMIT {
-            STATES
-        } else {
-            0
-        }
+        if is_valid(limit) { STATES } else { 0 }
     }
 
     fn start(&self, _limit: u32) -> u32 {

@@ -7,6 +7,7 @@ use crate::refused::Refused;
 use crate::stops::stopped_weight;
 use charts::{Edge, Zone, ZoneParameters};
 use layers::{Confirm, HeadStart, Lead, Repeats, Reset, Union};
+use std::fmt;
 
 const LIMIT: u32 = 3;
 
@@ -25,6 +26,17 @@ pub struct Stops {
     pub anew: u64,
     // begun anew after an alarm, and only twice in a row
     pub anew_twice: u64,
+}
+
+impl fmt::Display for Stops {
+    fn fmt<W: fmt::Write>(&self, f: &mut fmt::Formatter<W>) -> fmt::Result {
+        writeln!(f, "moving sum {}", self.alone)?;
+        writeln!(f, "head start {}", self.led)?;
+        writeln!(f, "union {}", self.either)?;
+        writeln!(f, "confirmation {}", self.twice)?;
+        writeln!(f, "reset {}", self.anew)?;
+        write!(f, "confirmation of reset {}", self.anew_twice)
+    }
 }
 
 // No parameter here is refused, and each chart has states at the limit.

@@ -7,21 +7,12 @@ mod layered;
 mod refused;
 mod stops;
 
-use layered::{Stops, layered};
+use layered::layered;
 use std::io;
-
-fn print(rt: &HostRuntime, stops: Stops) -> io::Result<()> {
-    println!(rt; "moving sum {}", stops.alone)?;
-    println!(rt; "head start {}", stops.led)?;
-    println!(rt; "union {}", stops.either)?;
-    println!(rt; "confirmation {}", stops.twice)?;
-    println!(rt; "reset {}", stops.anew)?;
-    println!(rt; "confirmation of reset {}", stops.anew_twice)
-}
 
 fn main(rt: HostRuntime) -> io::Result<()> {
     match layered() {
-        Ok(stops) => print(&rt, stops),
-        Err(refused) => println!(rt; "refused {}", refused.number()),
+        Ok(stops) => println!(rt; "{stops}"),
+        Err(refused) => println!(rt; "{refused}"),
     }
 }

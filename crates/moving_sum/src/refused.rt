@@ -3,6 +3,8 @@ ghost use Rattle.std.specs.Prelude.{◌≡◌};
 ghost use Rattle.moving_sum.specs.Refused.{refused_number};
 ghost use Rattle.moving_sum.specs.declared.refused.Refused.TheVariants.{Parameter, Table};
 
+use std::fmt;
+
 #[derive(Clone, Copy)]
 pub enum Refused {
     // a parameter of a chart was refused
@@ -12,7 +14,7 @@ pub enum Refused {
 }
 
 impl Refused {
-    // The number of the refusal.
+    // The number of the refusal; it has a contract, which printing has not.
     pub(crate) fn number(self) -> u32
         ensures { result ≡ refused_number self }
     {
@@ -20,6 +22,12 @@ impl Refused {
             Refused::Parameter(refusal) => refusal.number(),
             Refused::Table(refusal) => refusal.number(),
         }
+    }
+}
+
+impl fmt::Display for Refused {
+    fn fmt<W: fmt::Write>(&self, f: &mut fmt::Formatter<W>) -> fmt::Result {
+        write!(f, "refused {}", self.number())
     }
 }
 

@@ -5,7 +5,7 @@ ghost use Rattle.moving_sum.specs.Stops.{stops, stops_checks};
 ghost use Rattle.tables.specs.Refusal.{number};
 
 use charts::Chart;
-use tables::{ROW_CELLS, Refusal, Row, tabulate};
+use tables::{ROW_CELLS, Refusal, Rows, tabulate};
 use weights::Count;
 
 const WEIGHTS: [Count; 3] = [Count { value: 2 }, Count { value: 1 }, Count { value: 1 }];
@@ -16,10 +16,9 @@ const COURSES: u32 = 3;
 pub(crate) fn stopped_weight<C: Chart>(chart: &C, limit: u32) -> Result<u64, Refusal>
     ensures { Checked number (stops_checks (C.Chart.meaning chart.now) limit) (Unit {0}) (λ n. n ≡ stops (C.Chart.meaning chart.now) limit) result }
 {
-    let mut front = [Count { value: 0 }; ROW_CELLS];
-    let mut back = [Count { value: 0 }; ROW_CELLS];
-    let mut first = Row::new(&mut front);
-    let mut second = Row::new(&mut back);
-    let table = tabulate(chart, limit, &WEIGHTS, COURSES, &mut first, &mut second)?;
+    let mut first = [Count { value: 0 }; ROW_CELLS];
+    let mut second = [Count { value: 0 }; ROW_CELLS];
+    let mut rows = Rows::new(&mut first, &mut second);
+    let table = tabulate(chart, limit, &WEIGHTS, COURSES, &mut rows)?;
     Ok(table.caught.value)
 }

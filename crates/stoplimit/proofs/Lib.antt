@@ -1,3 +1,2 @@
-pub mod Filling
 pub mod Truth
-pub mod Lastings
+pub mod FirstFit

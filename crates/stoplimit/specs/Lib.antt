@@ -1,1 +1,2 @@
 pub mod Bed
+pub mod Refused

@@ -1,42 +1,43 @@
 // The program stoplimit: designs the worked bed, and prints its least fit limit with the figures.
 #![tactic(auto)]
 
+ghost use Rattle.std.specs.Prelude.{◌≡◌, MatchResult};
+ghost use Rattle.stoplimit.specs.Bed.{Designed, worked_bed, worked_cusum};
+ghost use Rattle.tables.specs.Fit.{NoneFit};
+
+mod batch;
 mod bed;
-mod caught;
 mod design;
-mod lists;
-mod scan;
-mod totals;
+mod designer;
+mod refused;
+mod setting;
+mod share;
 mod worked;
+mod workspace;
 
 use charts::{Cusum, Scores};
-use design::{Design, least_design};
+use design::Design;
+use designer::Designer;
+use refused::Refused;
 use std::io;
-use worked::worked;
+use worked::{SCORES, worked};
 
-// The number of the refusal where no limit of the range is fit.
-const NO_FIT_LIMIT: u32 = 15;
-
-fn print(rt: &HostRuntime, design: Design) -> io::Result<()> {
-    println!(rt; "(limit {})", design.limit)?;
-    println!(rt; "(good {} {})", design.good, design.good_total)?;
-    println!(rt; "(off {} {})", design.off, design.off_total)?;
-    match design.mildest {
-        Some(cost) => println!(rt; "(mildest {cost})"),
-        None => println!(rt; "(mildest none)"),
-    }
+// The design of the worked bed by the worked cusum.
+fn worked_design() -> Result<Design, Refused>
+    ensures { MatchResult result
+        (λ d. Designed worked_cusum worked_bed d)
+        (λ e. (e ≡ Refused.NoFitLimit) × NoneFit worked_cusum worked_bed) }
+{
+    let designer = Designer {
+        chart: &Cusum::new(Scores::new(SCORES)?),
+        bed: &worked(),
+    };
+    designer.least_design()
 }
 
 fn main(rt: HostRuntime) -> io::Result<()> {
-    let mut values = [0; 16];
-    values[0] = -1;
-    values[2] = 1;
-    let scores = match Scores::new(values) {
-        Ok(scores) => scores,
-        Err(refusal) => return println!(rt; "(refused {} 0)", refusal.number()),
-    };
-    match least_design(&Cusum::new(scores), &worked()) {
-        Some(design) => print(&rt, design),
-        None => println!(rt; "(refused {NO_FIT_LIMIT} 0)"),
+    match worked_design() {
+        Ok(design) => println!(rt; "{design}"),
+        Err(refused) => println!(rt; "{refused}"),
     }
 }

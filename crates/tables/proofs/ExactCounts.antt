@@ -1,14 +1,15 @@
 -- Counts modulo 2^64 are exact where the total weight is small.
-use Rattle.std.proofs.Common.{◌≡◌, ℕ, zero, suc, ◌+◌, ◌*◌, ◌%◌, ◌^◌, Bool, true, false, cond, not, List, [], ◌∷◌, map, length, get_or, sum, sym, refl, ap, ◌∙◌, add-zero, add_assoc, mod-eq_of_lt, mul_comm, add-mul, add_comm, one-mul, pow-suc, mul-zero, zero-add, zero-mul, mul-one, mul-add, arith}
+use Rattle.std.proofs.Common.{◌≡◌, ℕ, zero, suc, ◌+◌, ◌*◌, ◌^◌, Bool, true, false, cond, not, List, [], ◌∷◌, map, length, get_or, sum, sym, refl, ap, ◌∙◌, add-zero, add_assoc, mod-eq_of_lt, add-mul, add_comm, one-mul, pow-suc, mul-zero, zero-add, zero-mul, mul-one, mul-add, arith}
 use native.Mathlib.Nat.{add-mod, pow-zero}
 use lib.ListN.{get_or-map}
 use Rattle.std.proofs.lemmas.List.{length-map}
+use Rattle.std.proofs.lemmas.Nat.{mul-mod}
 use Rattle.std.proofs.lemmas.List.Sums.{sum_by-cons}
 use Rattle.charts.specs.Meaning.{Moves}
 use Rattle.charts.specs.Runs.{stops_from}
 use Rattle.weights.specs.Laws.{Algebra, Laws}
 use Rattle.weights.specs.Kinds.{count, counts}
-use Rattle.weights.specs.KindLaws.{count_mod, mul_mod_mod}
+use Rattle.weights.specs.KindLaws.{count_mod}
 use Rattle.tables.specs.Sequences.{sequences, product_from, weight}
 use Rattle.tables.specs.Fill.{join_below, guarded, passed_on}
 use Rattle.tables.specs.Table.{join_over, caught_from}
@@ -33,9 +34,7 @@ count_adds : (a b : ℕ) → count (a + b) ≡ counts.join (count a) (count b)
 count_adds a b = count_mod _ _ (add-mod a b (2 ^ 64))
 
 count_multiplies : (a b : ℕ) → count (a * b) ≡ counts.product (count a) (count b)
-count_multiplies a b =
-    let m = 2 ^ 64 in
-    count_mod _ _ (sym (mul_mod_mod a b m) ∙ ap (λ x. x % m) (mul_comm a (b % m)) ∙ sym (mul_mod_mod (b % m) a m) ∙ ap (λ x. x % m) (mul_comm (b % m) (a % m)))
+count_multiplies a b = count_mod _ _ (mul-mod a b (2 ^ 64))
 
 join_counts : {X : Type 0} (p : X → Bool) (f : X → ℕ) (xs : List X) → count (join_over naturals p f xs) ≡ join_over counts p (λ x. count (f x)) xs
 join_counts p f [] = refl

@@ -1,8 +1,6 @@
 pub mod Joins
 pub mod SequencesListed
 pub mod TableRecurrence
-pub mod FillSymbols
-pub mod FillStates
+pub mod FillTurns
 pub mod RollCourses
-pub mod TableAnswers
 pub mod ExactCounts

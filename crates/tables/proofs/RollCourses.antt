@@ -16,7 +16,10 @@ sided_even n x y e = cond-true (eqb (n % 2) 0) x y (eq-eqb (n % 2) 0 e)
 pub sided_odd : {X : Type 0} (n : ℕ) (x y : X) → (n % 2 ≡ 0 → ⊥) → sided n x y ≡ y
 sided_odd n x y ne = cond-false (eqb (n % 2) 0) x y (ne_eqb (n % 2) 0 ne)
 
--- A chart's steps by the first i symbols stay below its count.
+-- A chart starts below its count n, and its steps by the first i symbols stay there.
+pub starts_by : (m : Meaning) → Sound m → (h n : ℕ) → n ≡ m.count h → 0 < n → m.moves.start h < n
+starts_by m o h n is some = omega (arith, is, o.start_below h (omega (arith, is)))
+
 pub below_by : (m : Meaning) → Sound m → (h n i : ℕ) → n ≡ m.count h → i ≤ 16 → (s a : ℕ) → s < n → a < i → m.moves.step h s a < n
 below_by m o h n i is few s a b e = subst (λ z. m.moves.step h s a < z) (sym is) (o.step_below h s a (subst (λ z. s < z) is b) (omega arith))
 
@@ -34,30 +37,16 @@ module _ {S : Type 0} (k : Algebra S) (l : Laws k) (m : Moves) (h start : ℕ) (
         ∙ ap (λ y. k.join (passed_on k w y) (join_below k (λ s. alarming k m h w s (table_at k m h start w i s)) n)) e
         ∙ sym (caught_more k l m h start w n below stays i)
 
-  module _ (i : ℕ) (first second row : List S) (c c' : S) (was : Rolled k m h start n w i first second first second c) where
-    -- From the first row into the second.
-    pub roll_even : i % 2 ≡ 0 → ((t : ℕ) → t < n → get_or row t k.zero ≡ join_below k (λ s. into k m h w t s (get_or first s k.zero)) n) → drop n row ≡ drop n second → c' ≡ k.join (passed_on k w c) (join_below k (λ s. alarming k m h w s (get_or first s k.zero)) n) → Rolled k m h start n w (i + 1) first second first row c'
-    roll_even even cells past alarm =
-        let from : (s : ℕ) → s < n → get_or first s k.zero ≡ table_at k m h start w i s =
-        λ s b. ap (λ r. get_or r s k.zero) (sym (sided_even i first second even)) ∙ was.filled s b in
-        record {
-          filled = λ s b. ap (λ r. get_or r s k.zero) (sided_odd (i + 1) first row (λ e. omega arith)) ∙ cells s b ∙ next_table i first from s;
-          first_past = refl;
-          second_past = past;
-          caught_is = alarm ∙ next_caught i first from c was.caught_is;
-        }
-
-    -- From the second row into the first.
-    pub roll_odd : (i % 2 ≡ 0 → ⊥) → ((t : ℕ) → t < n → get_or row t k.zero ≡ join_below k (λ s. into k m h w t s (get_or second s k.zero)) n) → drop n row ≡ drop n first → c' ≡ k.join (passed_on k w c) (join_below k (λ s. alarming k m h w s (get_or second s k.zero)) n) → Rolled k m h start n w (i + 1) first second row second c'
-    roll_odd odd cells past alarm =
-        let from : (s : ℕ) → s < n → get_or second s k.zero ≡ table_at k m h start w i s =
-        λ s b. ap (λ r. get_or r s k.zero) (sym (sided_odd i first second odd)) ∙ was.filled s b in
-        record {
-          filled = λ s b. ap (λ r. get_or r s k.zero) (sided_even (i + 1) row second (omega arith)) ∙ cells s b ∙ next_table i second from s;
-          first_past = past;
-          second_past = refl;
-          caught_is = alarm ∙ next_caught i second from c was.caught_is;
-        }
+  -- From the row of one side, `from`, into that of the other, which `row` then is.
+  pub roll_more : (i : ℕ) (first second first' second' from row : List S) (c c' : S) → Rolled k m h start n w i first second first second c → sided i first second ≡ from → sided (i + 1) first' second' ≡ row → drop n first' ≡ drop n first → drop n second' ≡ drop n second → ((t : ℕ) → t < n → get_or row t k.zero ≡ join_below k (λ s. into k m h w t s (get_or from s k.zero)) n) → c' ≡ k.join (passed_on k w c) (join_below k (λ s. alarming k m h w s (get_or from s k.zero)) n) → Rolled k m h start n w (i + 1) first second first' second' c'
+  roll_more i first second first' second' from row c c' was held filled first_past second_past cells alarm =
+      let table : (s : ℕ) → s < n → get_or from s k.zero ≡ table_at k m h start w i s = λ s b. ap (λ r. get_or r s k.zero) (sym held) ∙ was.filled s b in
+      record {
+        filled = λ s b. ap (λ r. get_or r s k.zero) filled ∙ cells s b ∙ next_table i from table s;
+        first_past = first_past;
+        second_past = second_past;
+        caught_is = alarm ∙ next_caught i from table c was.caught_is;
+      }
 
 module _ {S : Type 0} (k : Algebra S) (l : Laws k) (m : Moves) (h start n : ℕ) (w : List S) where
   -- No course.

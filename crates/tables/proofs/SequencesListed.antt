@@ -1,12 +1,14 @@
 -- The list of sequences has every sequence, each once.
 use Rattle.std.proofs.Common.{◌≡◌, ℕ, zero, suc, ◌+◌, ◌*◌, ◌/◌, ◌%◌, ◌<◌, List, [], ◌∷◌, ◌++◌, map, length, get_or, sym, refl, ap, ◌∙◌, subst, ⊎_elim, suc-mul, mul_comm, mul-zero, zero-mul, arith}
 use native.Mathlib.Nat.{mod-add-div}
-use Rattle.std.specs.List.{flat_map, AllByRecursion}
+use Rattle.std.specs.List.{flat_map}
 use Rattle.std.proofs.lemmas.List.{length-append, length-map, length_push, get_or_append_left, get_or-append-add, get_or_push, get_or-map, same_from_push}
 use Rattle.std.proofs.lemmas.Bool.{cases_lt}
 use Rattle.std.proofs.lemmas.Nat.{mul-add-lt, div_below, mod_below}
 use Rattle.charts.specs.Runs.{Symbols}
+use Rattle.charts.proofs.RunsByLast.{symbols_last}
 use Rattle.tables.specs.Sequences.{symbols, sequences, Sequence, Once, Listed}
+use Rattle.tables.proofs.TableRecurrence.{all_append}
 
 length_symbols : (k : ℕ) → length (symbols k) ≡ k
 length_symbols zero = refl
@@ -50,14 +52,6 @@ pushed : (a : ℕ) (q : List ℕ) → Pushed (a ∷ q)
 pushed a [] = record { front = []; last = a; is = refl }
 pushed a (b ∷ q) = let p = pushed b q in record { front = a ∷ p.front; last = p.last; is = ap (λ r. a ∷ r) p.is }
 
-all_parts : {X : Type 0} (P : X → Type 0) (xs ys : List X) → AllByRecursion P (xs ++ ys) → AllByRecursion P xs × AllByRecursion P ys
-all_parts P [] ys h = (tt, h)
-all_parts P (x ∷ xs) ys h = let p = all_parts P xs ys h.1 in ((h.0, p.0), p.1)
-
-all_push : {X : Type 0} (P : X → Type 0) (xs : List X) (y : X) → AllByRecursion P xs → P y → AllByRecursion P (xs ++ y ∷ [])
-all_push P [] y h g = (g, tt)
-all_push P (x ∷ xs) y h g = (h.0, all_push P xs y h.1 g)
-
 length_longer : (k : ℕ) (q : List ℕ) → length (longer k q) ≡ k
 length_longer k q = length-map (symbols k) (λ a. q ++ a ∷ []) ∙ length_symbols k
 
@@ -96,14 +90,14 @@ module _ (k n : ℕ) (shorter : Listed k n) where
   longer_sequence : (q : List ℕ) (a : ℕ) → Sequence k n q → a < k → Sequence k (suc n) (q ++ a ∷ [])
   longer_sequence q a s b = record {
     long = length_push q a ∙ omega (arith, s.long);
-    over = all_push (λ c. c < k) q a s.over b;
+    over = all_append (λ c. c < k) q (a ∷ []) s.over (b, tt);
   }
 
   shorter_sequence : (q front : List ℕ) (a : ℕ) → q ≡ front ++ a ∷ [] → Sequence k (suc n) q → Sequence k n front × (a < k)
   shorter_sequence q front a is s =
-      let parts = all_parts (λ c. c < k) front (a ∷ []) (subst (Symbols k) is s.over) in
+      let parts = symbols_last k front a (subst (Symbols k) is s.over) in
       let size : length front + 1 ≡ suc n = sym (length_push front a) ∙ ap length (sym is) ∙ s.long in
-      (record { long = omega arith; over = parts.0 }, parts.1.0)
+      (record { long = omega arith; over = parts.0 }, parts.1)
 
   once_longer : (q front : List ℕ) (a : ℕ) → q ≡ front ++ a ∷ [] → Sequence k (suc n) q → Once q (sequences k (suc n))
   once_longer q front a is s =

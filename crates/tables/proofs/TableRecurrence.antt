@@ -16,7 +16,7 @@ product_push : {S : Type 0} (k : Algebra S) (w : List S) (x : S) (q : List ℕ) 
 product_push k w x [] a = refl
 product_push k w x (b ∷ q) a = product_push k w _ q a
 
-all_append : {X : Type 0} (P : X → Type 0) (xs ys : List X) → AllByRecursion P xs → AllByRecursion P ys → AllByRecursion P (xs ++ ys)
+pub all_append : {X : Type 0} (P : X → Type 0) (xs ys : List X) → AllByRecursion P xs → AllByRecursion P ys → AllByRecursion P (xs ++ ys)
 all_append P [] ys h g = g
 all_append P (x ∷ xs) ys h g = (h.0, all_append P xs ys h.1 g)
 

@@ -1,9 +1,9 @@
 -- What a task asks of a limit, and the figures of a chart for it.
-use Rattle.std.specs.Prelude.{ℕ, ◌-◌, ◌^◌, Bool, true, cond, List, [], ◌∷◌, map, Some, None, sum, Option, ◌==◌}
+use Rattle.std.specs.Prelude.{ℕ, ◌^◌, Bool, true, if◌then◌else◌, List, [], ◌∷◌, map, sum, Option, ◌==◌}
 use Rattle.charts.specs.Meaning.{Meaning}
 use Rattle.weights.specs.declared.values.Can.{Can}
 use Rattle.weights.specs.declared.values.Cost.{Cost}
-use Rattle.weights.specs.Kinds.{cost, costs, can, cans}
+use Rattle.weights.specs.Kinds.{cost, costs, present, can, cans}
 use Rattle.tables.specs.Exact.{naturals}
 use Rattle.tables.specs.Table.{caught_from}
 
@@ -37,7 +37,7 @@ off_caught m r h = caught_from naturals m.moves h (m.moves.start h) r.off r.off_
 
 -- The costs of the symbols as weights: absent where the off weight is 0.
 abbrev pub cost_weight : ℕ → ℕ → Cost
-cost_weight w c = cond (w == 0) costs.zero (cost c)
+cost_weight w c = if w == 0 then costs.zero else cost c
 
 abbrev pub cost_weights : List ℕ → List ℕ → List Cost
 cost_weights [] cs = []
@@ -46,14 +46,10 @@ cost_weights (w ∷ ws) (c ∷ cs) = cost_weight w c ∷ cost_weights ws cs
 
 -- Yes for each symbol, but no where the off weight is 0.
 abbrev pub can_weight : ℕ → Can
-can_weight w = cond (w == 0) cans.zero (can true)
+can_weight w = if w == 0 then cans.zero else can true
 
 abbrev pub can_weights : List ℕ → List Can
 can_weights ws = map can_weight ws
-
--- A cost, or none where it is absent.
-abbrev pub present : Cost → Option ℕ
-present c = cond (c.value == 2 ^ 64 - 1) None (Some c.value)
 
 -- The mildest cost: the join in costs, which is the least, over the sequences of the off courses that
 -- the chart stops at the limit h; none where it is absent.

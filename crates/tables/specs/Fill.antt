@@ -1,5 +1,5 @@
 -- What one course adds to a row: the words of the row filler's contracts.
-use Rattle.std.specs.Prelude.{ℕ, zero, suc, Bool, cond, not, ◌&&◌, List, length, ◌==◌, slice_index_or}
+use Rattle.std.specs.Prelude.{ℕ, zero, suc, Bool, if◌then◌else◌, not, ◌&&◌, List, length, ◌==◌, slice_index_or}
 use Rattle.charts.specs.Meaning.{Moves}
 use Rattle.weights.specs.Laws.{Algebra}
 
@@ -10,7 +10,7 @@ join_below k f (suc n) = k.join (join_below k f n) (f n)
 
 -- x where the test passes, else zero.
 abbrev pub guarded : {S : Type 0} → Algebra S → Bool → S → S
-guarded k b x = cond b x k.zero
+guarded k b x = if b then x else k.zero
 
 -- What y, the weight of a sequence with one symbol a more after the state s, gives to the state t
 -- unstopped, and what it gives to the caught value.

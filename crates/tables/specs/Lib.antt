@@ -2,6 +2,7 @@ pub mod Sequences
 pub mod Row
 pub mod Table
 pub mod Refusal
+pub mod Side
 pub mod Part
 pub mod Exact
 pub mod Figures

@@ -1,5 +1,5 @@
 -- Working rows: what one holds, what a call leaves of it, and the row of a side.
-use Rattle.std.specs.Prelude.{◌≡◌, ℕ, ◌%◌, cond, List, length, ◌==◌}
+use Rattle.std.specs.Prelude.{◌≡◌, ℕ, ◌%◌, if◌then◌else◌, List, length, ◌==◌}
 use Rattle.tables.specs.declared.row.Row.{Row}
 
 -- The values that a row holds.
@@ -17,4 +17,4 @@ pub record Lasting {S : Type 0} (old new : Row S) : Type 0 where
 
 -- The one of two rows that is of the side n mod 2.
 abbrev pub sided : {X : Type 0} → ℕ → X → X → X
-sided n first second = cond (n % 2 == 0) first second
+sided n first second = if n % 2 == 0 then first else second

@@ -1,5 +1,5 @@
 -- The table of Brook and Evans, as joins over all sequences.
-use Rattle.std.specs.Prelude.{◌≡◌, ℕ, ◌%◌, ◌<◌, Bool, cond, not, ◌&&◌, List, [], ◌∷◌, length, drop, ◌==◌, slice_index_or}
+use Rattle.std.specs.Prelude.{◌≡◌, ℕ, ◌%◌, ◌<◌, Bool, if◌then◌else◌, not, ◌&&◌, List, [], ◌∷◌, length, drop, ◌==◌, slice_index_or}
 use Rattle.charts.specs.Meaning.{Moves, Meaning}
 use Rattle.charts.specs.Runs.{run_from, stops_from}
 use Rattle.weights.specs.Laws.{Algebra}
@@ -9,7 +9,7 @@ use Rattle.tables.specs.Sequences.{sequences, weight}
 -- The join of f over the elements that pass the test p.
 abbrev pub join_over : {S X : Type 0} → Algebra S → (X → Bool) → (X → S) → List X → S
 join_over k p f [] = k.zero
-join_over k p f (x ∷ xs) = cond (p x) (k.join (f x) (join_over k p f xs)) (join_over k p f xs)
+join_over k p f (x ∷ xs) = if p x then k.join (f x) (join_over k p f xs) else join_over k p f xs
 
 -- At the limit h, the join over all sequences of n symbols that go from the state s to the state t
 -- unstopped; w has the weights of the symbols.

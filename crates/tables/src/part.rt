@@ -6,14 +6,11 @@ ghost use Rattle.tables.specs.Part.{front, part_of};
 fn prefix<S>(row: &[S], count: usize) -> &[S]
     ensures { result.now ≡ front count row.now }
 {
-    if count <= row.len() {
-        &row[0..count]
-    } else {
-        &row[0..0]
-    }
+    row.get(..count).unwrap_or(&[])
 }
 
-// The first `count` cells of the row of `side`, 0 or 1; none for another side or a shorter row.
+// The first `count` cells of the row of `side`, 0 or 1; none for another side or a shorter row. The
+// side is a number here, since any may be asked for.
 pub fn table_part<'a, S>(first: &'a [S], second: &'a [S], side: u32, count: u32) -> &'a [S]
     ensures { result.now ≡ part_of side count first.now second.now }
 {

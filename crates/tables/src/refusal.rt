@@ -5,11 +5,11 @@ ghost use Rattle.tables.specs.Refusal.{number as number_of};
 #[derive(Clone, Copy, PartialEq, Eq, Debug)]
 pub enum Refusal {
     // no weights, more than 16, or more than 40 courses
-    OutOfBounds,
+    OutOfBounds = 41,
     // a row shorter than 1,024 cells
-    ShortRow,
+    ShortRow = 42,
     // the chart has no states at the limit, or too many
-    NoStates,
+    NoStates = 43,
 }
 
 impl Refusal {
@@ -17,10 +17,6 @@ impl Refusal {
     pub fn number(self) -> u32
         ensures { result ≡ number_of self }
     {
-        match self {
-            Refusal::OutOfBounds => 41,
-            Refusal::ShortRow => 42,
-            Refusal::NoStates => 43,
-        }
+        self as u32
     }
 }

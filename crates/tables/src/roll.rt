@@ -3,61 +3,38 @@ ghost use Rattle.std.specs.Prelude.{◌≡◌, ◌+◌, ◌<◌, ◌≤◌, leng
 ghost use Rattle.tables.specs.Roll.{Rolled};
 ghost use Rattle.tables.specs.Row.{held, Lasting};
 
-use crate::row::Row;
+use crate::chain::Chain;
+use crate::row::Rows;
+use crate::side::Side;
 use charts::Chart;
 use weights::Semiring;
 
-// One course more after `done` courses from `start`, from the row of one side into the other.
-fn course<C: Chart, S: Semiring>(
-    chart: &C,
-    limit: u32,
-    start: u32,
-    weights: &[S],
-    count: u32,
-    done: u32,
-    first: &mut Row<'_, S>,
-    second: &mut Row<'_, S>,
-    caught: S,
-) -> S
-    requires counted { count ≡ (C.Chart.meaning chart.now).count limit }
-    requires start { start < count }
-    requires few { length weights.now ≤ 16 }
-    requires room { (count ≤ length (held first.old)) × (count ≤ length (held second.old)) }
-    requires rolled { Rolled S.Semiring.kind (C.Chart.meaning chart.now).moves limit start count weights.now done (held first.old) (held second.old) (held first.old) (held second.old) caught }
-    ensures rolled { Rolled S.Semiring.kind (C.Chart.meaning chart.now).moves limit start count weights.now (done + 1) (held first.old) (held second.old) (held first.new) (held second.new) result }
-    ensures lasting { Lasting first.old first.new × Lasting second.old second.new }
-{
-    if done % 2 == 0 {
-        second.fill_from(chart, limit, weights, count, first, caught)
-    } else {
-        first.fill_from(chart, limit, weights, count, second, caught)
+impl<C: Chart, S: Semiring> Chain<'_, C, S> {
+    // One course more after `done` courses, from the row of one side into the other.
+    fn course(&self, done: u32, rows: &mut Rows<'_, S>, caught: S) -> S
+        requires room { (self.now.count ≤ length (held rows.old.first)) × (self.now.count ≤ length (held rows.old.second)) }
+        requires rolled { Rolled S.Semiring.kind (C.Chart.meaning self.now.chart.now).moves self.now.limit ((C.Chart.meaning self.now.chart.now).moves.start self.now.limit) self.now.count self.now.weights.now done (held rows.old.first) (held rows.old.second) (held rows.old.first) (held rows.old.second) caught }
+        ensures rolled { Rolled S.Semiring.kind (C.Chart.meaning self.now.chart.now).moves self.now.limit ((C.Chart.meaning self.now.chart.now).moves.start self.now.limit) self.now.count self.now.weights.now (done + 1) (held rows.old.first) (held rows.old.second) (held rows.new.first) (held rows.new.second) result }
+        ensures lasting { Lasting rows.old.first rows.new.first × Lasting rows.old.second rows.new.second }
+    {
+        match Side::after(done) {
+            Side::First => rows.second.fill_from(self, &rows.first, caught),
+            Side::Second => rows.first.fill_from(self, &rows.second, caught),
+        }
     }
-}
 
-// The table of `courses` courses from `start`, and its caught value.
-pub(crate) fn roll<C: Chart, S: Semiring>(
-    chart: &C,
-    limit: u32,
-    start: u32,
-    weights: &[S],
-    courses: u32,
-    count: u32,
-    first: &mut Row<'_, S>,
-    second: &mut Row<'_, S>,
-) -> S
-    requires counted { count ≡ (C.Chart.meaning chart.now).count limit }
-    requires start { start < count }
-    requires few { length weights.now ≤ 16 }
-    requires room { (count ≤ length (held first.old)) × (count ≤ length (held second.old)) }
-    ensures rolled { Rolled S.Semiring.kind (C.Chart.meaning chart.now).moves limit start count weights.now courses (held first.old) (held second.old) (held first.new) (held second.new) result }
-    ensures lasting { Lasting first.old first.new × Lasting second.old second.new }
-{
-    first.start_at(start, count);
-    let mut caught = S::zero();
-    for done in 0..courses {
-        caught = course(
-            chart, limit, start, weights, count, done, first, second, caught,
-        );
+    // The table of `courses` courses, and its caught value.
+    #[tactic(auto, using(crate::proofs::RollCourses::roll_all))]
+    pub(crate) fn roll(&self, courses: u32, rows: &mut Rows<'_, S>) -> S
+        requires room { (self.now.count ≤ length (held rows.old.first)) × (self.now.count ≤ length (held rows.old.second)) }
+        ensures rolled { Rolled S.Semiring.kind (C.Chart.meaning self.now.chart.now).moves self.now.limit ((C.Chart.meaning self.now.chart.now).moves.start self.now.limit) self.now.count self.now.weights.now courses (held rows.old.first) (held rows.old.second) (held rows.new.first) (held rows.new.second) result }
+        ensures lasting { Lasting rows.old.first rows.new.first × Lasting rows.old.second rows.new.second }
+    {
+        rows.first.start_at(self);
+        let mut caught = S::zero();
+        for done in 0..courses {
+            caught = self.course(done, rows, caught);
+        }
+        caught
     }
-    caught
 }

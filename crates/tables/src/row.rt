@@ -1,15 +1,15 @@
-// A working row: the cells of one weight kind that the caller lends.
+// Working rows: the cells of one weight kind that the caller lends, and two of them.
 ghost use Rattle.std.specs.Prelude.{◌≡◌, ℕ, ◌<◌, ◌≤◌, length, drop, ◌==◌, slice_index_or};
 ghost use Rattle.tables.specs.Row.{held, Lasting};
 ghost use Rattle.tables.specs.Fill.{guarded, join_below, into, alarming, passed_on};
 
-use crate::fill::{advance, begin};
+use crate::chain::Chain;
 use charts::Chart;
 use weights::Semiring;
 
 #[derive(Drop)]
 pub struct Row<'a, S: Semiring> {
-    cells: &'a mut [S],
+    pub(crate) cells: &'a mut [S],
 }
 
 impl<'a, S: Semiring> Row<'a, S> {
@@ -29,35 +29,51 @@ impl<'a, S: Semiring> Row<'a, S> {
     }
 
     // The table of no course: one at the start state, zero elsewhere.
-    pub(crate) fn start_at(&mut self, start: u32, count: u32)
-        requires start { start < count }
-        requires room { count ≤ length (held self.old) }
-        ensures cells { (t : ℕ) → t < count → slice_index_or (held self.new) t S.Semiring.kind.zero ≡ guarded S.Semiring.kind (start == t) S.Semiring.kind.one }
-        ensures past { drop count (held self.new) ≡ drop count (held self.old) }
+    pub(crate) fn start_at<C: Chart>(&mut self, chain: &Chain<'_, C, S>)
+        requires { chain.now.count ≤ length (held self.old) }
+        ensures cells { (t : ℕ) → t < chain.now.count → slice_index_or (held self.new) t S.Semiring.kind.zero ≡ guarded S.Semiring.kind ((C.Chart.meaning chain.now.chart.now).moves.start chain.now.limit == t) S.Semiring.kind.one }
+        ensures past { drop chain.now.count (held self.new) ≡ drop chain.now.count (held self.old) }
         ensures lasting { Lasting self.old self.new }
     {
-        begin(start, count, self.cells);
+        chain.begin(self.cells);
     }
 
     // One course more than `from` has; answers the caught value.
     pub(crate) fn fill_from<C: Chart>(
         &mut self,
-        chart: &C,
-        limit: u32,
-        weights: &[S],
-        count: u32,
+        chain: &Chain<'_, C, S>,
         from: &Row<'_, S>,
         caught: S,
     ) -> S
-        requires counted { count ≡ (C.Chart.meaning chart.now).count limit }
-        requires few { length weights.now ≤ 16 }
-        requires source { count ≤ length (held from.now) }
-        requires room { count ≤ length (held self.old) }
-        ensures cells { (t : ℕ) → t < count → slice_index_or (held self.new) t S.Semiring.kind.zero ≡ join_below S.Semiring.kind (λ s. into S.Semiring.kind (C.Chart.meaning chart.now).moves limit weights.now t s (slice_index_or (held from.now) s S.Semiring.kind.zero)) count }
-        ensures past { drop count (held self.new) ≡ drop count (held self.old) }
-        ensures alarm { result ≡ S.Semiring.kind.join (passed_on S.Semiring.kind weights.now caught) (join_below S.Semiring.kind (λ s. alarming S.Semiring.kind (C.Chart.meaning chart.now).moves limit weights.now s (slice_index_or (held from.now) s S.Semiring.kind.zero)) count) }
+        requires source { chain.now.count ≤ length (held from.now) }
+        requires room { chain.now.count ≤ length (held self.old) }
+        ensures cells { (t : ℕ) → t < chain.now.count → slice_index_or (held self.new) t S.Semiring.kind.zero ≡ join_below S.Semiring.kind (λ s. into S.Semiring.kind (C.Chart.meaning chain.now.chart.now).moves chain.now.limit chain.now.weights.now t s (slice_index_or (held from.now) s S.Semiring.kind.zero)) chain.now.count }
+        ensures past { drop chain.now.count (held self.new) ≡ drop chain.now.count (held self.old) }
+        ensures alarm { result ≡ S.Semiring.kind.join (passed_on S.Semiring.kind chain.now.weights.now caught) (join_below S.Semiring.kind (λ s. alarming S.Semiring.kind (C.Chart.meaning chain.now.chart.now).moves chain.now.limit chain.now.weights.now s (slice_index_or (held from.now) s S.Semiring.kind.zero)) chain.now.count) }
         ensures lasting { Lasting self.old self.new }
     {
-        advance(chart, limit, weights, count, from.cells, self.cells, caught)
+        chain.advance(from.cells, self.cells, caught)
+    }
+}
+
+// The two rows that a table is rolled between.
+#[derive(Drop)]
+pub struct Rows<'a, S: Semiring> {
+    pub first: Row<'a, S>,
+    pub second: Row<'a, S>,
+}
+
+impl<'a, S: Semiring> Rows<'a, S> {
+    // Rows over these cells.
+    pub fn new(first: &'a mut [S], second: &'a mut [S]) -> Rows<'a, S>
+        ensures first { held result.first ≡ first.old }
+        ensures second { held result.second ≡ second.old }
+        ensures first_named { result.first.cells.ghost_name ≡ first.entry.ghost_name }
+        ensures second_named { result.second.cells.ghost_name ≡ second.entry.ghost_name }
+    {
+        Rows {
+            first: Row::new(first),
+            second: Row::new(second),
+        }
     }
 }

@@ -5,11 +5,13 @@ ghost use Rattle.tables.specs.Exact.{Exact};
 ghost use Rattle.tables.specs.Refusal.{number, table_checks};
 ghost use Rattle.tables.specs.Table.{Tabled};
 ghost use Rattle.tables.specs.Row.{held};
+ghost use Rattle.tables.specs.Side.{side_number};
 ghost use Rattle.tables.specs.Sequences.{Listed};
 
+use crate::chain::Chain;
 use crate::refusal::Refusal;
-use crate::roll::roll;
-use crate::row::Row;
+use crate::row::Rows;
+use crate::side::Side;
 use charts::{Chart, MAX_STATES, SYMBOLS};
 use weights::Semiring;
 
@@ -20,51 +22,46 @@ const MAX_COURSES: u32 = 40;
 // How many cells a row must have: as many as a chart can have states.
 pub const ROW_CELLS: usize = MAX_STATES as usize;
 
-// What the table call answers: the caught value, the state count, and the side, 0 or 1, whose row
-// holds the table.
+// What the table call answers: the caught value, the state count, and the side whose row holds the
+// table.
 #[derive(Clone, Copy)]
 pub struct Table<S: Semiring> {
     pub caught: S,
     pub count: u32,
-    pub side: u32,
+    pub side: Side,
 }
 
 // The table of `courses` courses from the chart's start at the limit: for each state, the join over
 // all sequences that end there unstopped. A refusal changes no row.
+#[tactic(auto, using(crate::proofs::SequencesListed::listed, crate::proofs::ExactCounts::exact))]
 pub fn tabulate<C: Chart, S: Semiring>(
     chart: &C,
     limit: u32,
     weights: &[S],
     courses: u32,
-    first: &mut Row<'_, S>,
-    second: &mut Row<'_, S>,
+    rows: &mut Rows<'_, S>,
 ) -> Result<Table<S>, Refusal>
     ensures answer { Checked number
-        (table_checks (length weights.now) courses (length (held first.old)) (length (held second.old)) ((C.Chart.meaning chart.now).count limit))
-        ((held first.new ≡ held first.old) × (held second.new ≡ held second.old))
-        (λ t. Tabled S.Semiring.kind (C.Chart.meaning chart.now) limit weights.now courses (held first.old) (held second.old) (held first.new) (held second.new) t.caught t.count t.side)
+        (table_checks (length weights.now) courses (length (held rows.old.first)) (length (held rows.old.second)) ((C.Chart.meaning chart.now).count limit))
+        ((held rows.new.first ≡ held rows.old.first) × (held rows.new.second ≡ held rows.old.second))
+        (λ t. Tabled S.Semiring.kind (C.Chart.meaning chart.now) limit weights.now courses (held rows.old.first) (held rows.old.second) (held rows.new.first) (held rows.new.second) t.caught t.count (side_number t.side))
         result }
-    ensures first_named { first.new.cells.ghost_name ≡ first.old.cells.ghost_name }
-    ensures second_named { second.new.cells.ghost_name ≡ second.old.cells.ghost_name }
+    ensures first_named { rows.new.first.cells.ghost_name ≡ rows.old.first.cells.ghost_name }
+    ensures second_named { rows.new.second.cells.ghost_name ≡ rows.old.second.cells.ghost_name }
     ensures listed { Listed (length weights.now) courses }
     ensures exact { (s : ℕ) → Exact (C.Chart.meaning chart.now).moves limit s courses }
 {
-    if weights.len() == 0 || weights.len() > MAX_WEIGHTS || courses > MAX_COURSES {
+    if weights.is_empty() || weights.len() > MAX_WEIGHTS || courses > MAX_COURSES {
         return Err(Refusal::OutOfBounds);
     }
-    if first.len() < ROW_CELLS || second.len() < ROW_CELLS {
+    if rows.first.len() < ROW_CELLS || rows.second.len() < ROW_CELLS {
         return Err(Refusal::ShortRow);
     }
-    let count = chart.count(limit);
-    if count == 0 {
-        return Err(Refusal::NoStates);
-    }
-    let start = chart.start(limit);
-    let caught = roll(chart, limit, start, weights, courses, count, first, second);
-    let side = courses % 2;
+    let chain = Chain::new(chart, limit, weights)?;
+    let caught = chain.roll(courses, rows);
     Ok(Table {
         caught,
-        count,
-        side,
+        count: chain.count,
+        side: Side::after(courses),
     })
 }

@@ -4,7 +4,6 @@ use Rattle.std.proofs.Common.{ap, ◌∙◌, mul-add, add-mul, arith, rules}
 use mathlib.Core.HLevel.{is_prop→PathP}
 use Rattle.std.proofs.Math.Bridge.{le_prop}
 use Rattle.std.proofs.lemmas.Nat.{mul-mod_first, mul-mod_second}
-pub use Rattle.std.proofs.lemmas.Nat.{mul-mod_second as mul_mod_mod}
 use Rattle.weights.specs.declared.values.Count.{Count}
 use Rattle.weights.specs.declared.values.Cost.{Cost}
 use Rattle.weights.specs.Laws.{Laws}

@@ -1,5 +1,5 @@
 -- The three weight kinds: counts, costs, and yes or no.
-use Rattle.std.specs.Prelude.{ℕ, ◌+◌, ◌-◌, ◌*◌, ◌%◌, ◌^◌, ◌<◌, min, Bool, true, false, cond, ◌&&◌, ◌||◌, Some, None, Option, ◌==◌}
+use Rattle.std.specs.Prelude.{ℕ, ◌+◌, ◌-◌, ◌*◌, ◌%◌, ◌^◌, ◌<◌, min, Bool, true, false, if◌then◌else◌, ◌&&◌, ◌||◌, Some, None, Option, ◌==◌}
 use Rattle.std.proofs.Common.{mod-lt, arith, lit<}
 use Rattle.weights.specs.Laws.{Algebra}
 use Rattle.weights.specs.declared.values.Count.{Count}
@@ -41,7 +41,7 @@ costs = record {
 
 -- A cost, or none where it is absent.
 abbrev pub present : Cost → Option ℕ
-present c = cond (c.value == 2 ^ 64 - 1) None (Some c.value)
+present c = if c.value == 2 ^ 64 - 1 then None else Some c.value
 
 abbrev pub can : Bool → Can
 can b = record { value = b }

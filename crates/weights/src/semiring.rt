@@ -16,7 +16,7 @@ pub trait Semiring: Copy {
     fn one() -> Self
         ensures { result ≡ kind.one };
 
-    // True exactly when this is the kind's zero.
+    // True exactly when this is the kind's zero. Each kind says it, so that none has to have `==`.
     fn is_zero(self) -> bool
         ensures { (result ≡ true) ↔ (self ≡ kind.zero) };
 

@@ -9,7 +9,7 @@ pub struct Count {
     ghost fits: { value < 2 ^ 64 },
 }
 
-// A cost; the largest number stands for an absent one.
+// A cost; the largest number stands for an absent one, so that a cost is a 64-bit number like a count.
 #[derive(Clone, Copy)]
 pub struct Cost {
     pub value: u64,

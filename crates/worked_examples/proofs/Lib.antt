@@ -1,1 +1,1 @@
-mod ClaimTests
+mod FitTests

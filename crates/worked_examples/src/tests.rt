@@ -1,9 +1,12 @@
 // Charts, layers and tables, run. The cusum bed has three symbols: scores -1 0 1, good weights 2 1 1
 // over three courses, off weights 1 1 2 over two courses, costs 0 1 3.
+ghost use Rattle.std.specs.Prelude.{◌*◌, ◌^◌, ◌<◌};
+ghost use Rattle.std.specs.Mem.{type_size};
+
 use charts::{Chart, Cusum, Edge, Scores, Zone, ZoneParameters};
 use layers::{Confirm, HeadStart, Lead, Repeats, Reset, Union};
 use std::test::Fail;
-use tables::{ROW_CELLS, Refusal, Row, table_part, tabulate};
+use tables::{ROW_CELLS, Refusal, Rows, table_part, tabulate};
 use weights::{Can, Cost, Count, Semiring};
 
 // What is expected at a limit: the weight of the stopped good sequences and of the stopped off ones,
@@ -17,6 +20,7 @@ struct Case {
     can_stop: bool,
 }
 
+// An absent cost, as a table has it.
 const ABSENT: u64 = u64::MAX;
 
 const CASES: [Case; 3] = [
@@ -59,14 +63,26 @@ fn count<C: Chart, S: Semiring>(
     first: &mut [S],
     second: &mut [S],
 ) -> Result<(S, S), Refusal> {
-    let mut front = Row::new(first);
-    let mut back = Row::new(second);
-    let table = tabulate(chart, limit, weights, courses, &mut front, &mut back)?;
-    let mut unstopped = S::zero();
-    for cell in table_part(first, second, table.side, table.count) {
-        unstopped = unstopped.join(*cell);
-    }
+    let mut rows = Rows::new(first, second);
+    let table = tabulate(chart, limit, weights, courses, &mut rows)?;
+    let cells = table_part(first, second, table.side.into(), table.count);
+    let unstopped = cells.iter().fold(S::zero(), |all, cell| all.join(*cell));
     Ok((table.caught, unstopped))
+}
+
+// The same, over two rows full of one value, which have to fit in memory.
+fn count_in_full_rows<C: Chart, S: Semiring>(
+    chart: &C,
+    limit: u32,
+    weights: &[S],
+    courses: u32,
+    cell: S,
+) -> Result<(S, S), Refusal>
+    requires { 1024 * type_size S.row < 2 ^ 63 }
+{
+    let mut first = [cell; ROW_CELLS];
+    let mut second = [cell; ROW_CELLS];
+    count(chart, limit, weights, courses, &mut first, &mut second)
 }
 
 fn counts<C: Chart>(
@@ -75,27 +91,26 @@ fn counts<C: Chart>(
     weights: [u64; 3],
     courses: u32,
 ) -> Result<(u64, u64), Refusal> {
-    let [a, b, c] = weights;
-    let weights = [Count { value: a }, Count { value: b }, Count { value: c }];
-    let mut first = [Count { value: 0 }; ROW_CELLS];
-    let mut second = [Count { value: 0 }; ROW_CELLS];
-    let (caught, unstopped) = count(chart, limit, &weights, courses, &mut first, &mut second)?;
+    let weights = weights.map(|value| Count { value });
+    let (caught, unstopped) = count_in_full_rows(
+        chart,
+        limit,
+        &weights,
+        courses,
+        Count { value: 0 },
+    )?;
     Ok((caught.value, unstopped.value))
 }
 
 fn mildest(limit: u32) -> Result<u64, Fail> {
-    let weights = [Cost { value: 0 }, Cost { value: 1 }, Cost { value: 3 }];
-    let mut first = [Cost { value: 0 }; ROW_CELLS];
-    let mut second = [Cost { value: 0 }; ROW_CELLS];
-    let (caught, _) = count(&cusum()?, limit, &weights, 2, &mut first, &mut second)?;
+    let weights = [0, 1, 3].map(|value| Cost { value });
+    let (caught, _) = count_in_full_rows(&cusum()?, limit, &weights, 2, Cost { value: 0 })?;
     Ok(caught.value)
 }
 
 fn can_stop(limit: u32) -> Result<bool, Fail> {
     let weights = [Can { value: true }; 3];
-    let mut first = [Can { value: false }; ROW_CELLS];
-    let mut second = [Can { value: false }; ROW_CELLS];
-    let (caught, _) = count(&cusum()?, limit, &weights, 2, &mut first, &mut second)?;
+    let (caught, _) = count_in_full_rows(&cusum()?, limit, &weights, 2, Can { value: false })?;
     Ok(caught.value)
 }
 
@@ -124,17 +139,15 @@ fn refusal(
     let mut first = [Count { value: 7 }; 2048];
     let mut second = [Count { value: 7 }; ROW_CELLS];
     let short = cells.min(2048);
-    match count(
+    let counted = count(
         &cusum()?,
         limit,
         weights,
         courses,
         &mut first[0..short],
         &mut second,
-    ) {
-        Ok(_) => Ok(None),
-        Err(refusal) => Ok(Some(refusal)),
-    }
+    );
+    Ok(counted.err())
 }
 
 #[test]
@@ -221,24 +234,23 @@ fn zone_rules(rt: HostRuntime) -> Result<(), Fail> {
     Ok(())
 }
 
-fn zone_refusal(hits: u8, window: u8, edge: Edge) -> u32 {
-    match ZoneParameters::new(hits, window, edge) {
-        Ok(_) => 0,
-        Err(refusal) => refusal.number(),
-    }
+// The number of the refusal of a zone rule, where there is one.
+fn zone_refusal(hits: u8, window: u8, edge: Edge) -> Option<u32> {
+    let refusal = ZoneParameters::new(hits, window, edge).err()?;
+    Some(refusal.number())
 }
 
 #[test]
 fn zone_parameters_out_of_range(rt: HostRuntime) {
-    assert_eq!(rt; zone_refusal(0, 9, Edge::At(17)), 23);
-    assert_eq!(rt; zone_refusal(9, 9, Edge::Limit), 23);
-    assert_eq!(rt; zone_refusal(2, 0, Edge::Limit), 23);
-    assert_eq!(rt; zone_refusal(2, 9, Edge::Limit), 23);
-    assert_eq!(rt; zone_refusal(3, 2, Edge::At(17)), 27);
-    assert_eq!(rt; zone_refusal(2, 2, Edge::At(17)), 23);
-    assert_eq!(rt; zone_refusal(2, 2, Edge::At(16)), 0);
-    assert_eq!(rt; zone_refusal(8, 8, Edge::Limit), 0);
-    assert_eq!(rt; zone_refusal(1, 1, Edge::At(0)), 0);
+    assert_eq!(rt; zone_refusal(0, 9, Edge::At(17)), Some(23));
+    assert_eq!(rt; zone_refusal(9, 9, Edge::Limit), Some(23));
+    assert_eq!(rt; zone_refusal(2, 0, Edge::Limit), Some(23));
+    assert_eq!(rt; zone_refusal(2, 9, Edge::Limit), Some(23));
+    assert_eq!(rt; zone_refusal(3, 2, Edge::At(17)), Some(27));
+    assert_eq!(rt; zone_refusal(2, 2, Edge::At(17)), Some(23));
+    assert_eq!(rt; zone_refusal(2, 2, Edge::At(16)), None);
+    assert_eq!(rt; zone_refusal(8, 8, Edge::Limit), None);
+    assert_eq!(rt; zone_refusal(1, 1, Edge::At(0)), None);
 }
 
 #[test]
