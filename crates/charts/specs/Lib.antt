@@ -9,6 +9,6 @@ pub mod CusumLaw
 pub mod Edge
 pub mod Zone
 pub mod ZoneLaw
-pub mod RunsSound
+pub mod RangesSound
 pub mod CusumSound
 pub mod ZoneSound

@@ -5,7 +5,7 @@ ghost use Rattle.charts.specs.CusumLaw.{StopsByBlocks};
 ghost use Rattle.charts.specs.CusumSound.{cusum_sound};
 
 use crate::chart::Chart;
-use crate::ranges::{SYMBOLS, is_valid};
+use crate::ranges::{is_valid, is_within};
 use crate::scores::Scores;
 
 #[derive(Clone, Copy)]
@@ -39,7 +39,7 @@ impl Chart for Cusum {
     }
 
     fn step(&self, limit: u32, state: u32, symbol: u8) -> u32 {
-        if !is_valid(limit) || state > limit || symbol >= SYMBOLS {
+        if !is_within(self.count(limit), state, symbol) {
             return 0;
         }
         let score = self.scores.values[usize::from(symbol)];

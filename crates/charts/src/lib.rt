@@ -15,7 +15,7 @@ pub use chart::Chart;
 pub use checks::check_range;
 pub use cusum::Cusum;
 pub use edge::Edge;
-pub use ranges::{MAX_LIMIT, MAX_STATES, SYMBOLS, is_valid};
+pub use ranges::{MAX_LIMIT, MAX_STATES, SYMBOLS, is_valid, is_within};
 pub use refusal::Refusal;
 pub use scores::Scores;
 pub use zone::Zone;

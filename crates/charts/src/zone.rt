@@ -5,7 +5,7 @@ ghost use Rattle.charts.specs.ZoneLaw.{AlarmsByMembers};
 ghost use Rattle.charts.specs.ZoneSound.{zone_sound};
 
 use crate::chart::Chart;
-use crate::ranges::{SYMBOLS, is_valid};
+use crate::ranges::{is_valid, is_within};
 use crate::zone_parameters::ZoneParameters;
 
 #[derive(Clone, Copy)]
@@ -44,7 +44,7 @@ impl Chart for Zone {
 
     fn step(&self, limit: u32, state: u32, symbol: u8) -> u32 {
         let states = self.count(limit);
-        if state >= states || symbol >= SYMBOLS {
+        if !is_within(states, state, symbol) {
             return 0;
         }
         let member = u32::from(self.parameters.edge.is_member(limit, symbol));

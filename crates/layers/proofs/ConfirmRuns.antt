@@ -4,7 +4,7 @@ use Rattle.std.proofs.lemmas.List.{length_push, take_all, take-append-le}
 use Rattle.std.proofs.lemmas.Bool.{eqb-true}
 use Rattle.std.proofs.lemmas.Bool.Decides.{nat_tests}
 use Rattle.charts.specs.Meaning.{Moves, Meaning, Sound}
-use Rattle.charts.specs.RunsSound.{end_below}
+use Rattle.charts.specs.RangesSound.{end_below}
 use Rattle.charts.specs.Runs.{Symbols, end_state, alarms_after}
 use Rattle.charts.proofs.RunsByLast.{by_last, symbols_last, end_push}
 use Rattle.layers.specs.Confirm.{in_a_row, confirm}

@@ -2,7 +2,7 @@
 use Rattle.std.proofs.Common.{◌≡◌, ℕ, ◌<◌, ◌||◌, List, [], ◌∷◌, ◌++◌, sym, refl, ap, ◌∙◌, arith}
 use Rattle.std.proofs.lemmas.Bool.Decides.{nat_tests}
 use Rattle.charts.specs.Meaning.{Meaning, Sound}
-use Rattle.charts.specs.RunsSound.{end_below}
+use Rattle.charts.specs.RangesSound.{end_below}
 use Rattle.charts.specs.Runs.{Symbols, end_state, alarms_after, stopped}
 use Rattle.charts.proofs.RunsByLast.{by_last, symbols_last, end_push, stops_push}
 use Rattle.layers.specs.PairsSound.{parts}

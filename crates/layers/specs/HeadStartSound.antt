@@ -2,7 +2,7 @@
 use Rattle.std.specs.Prelude.{◌≡◌, ℕ, List, [], ◌∷◌, replicate}
 use Rattle.std.proofs.Common.{arith}
 use Rattle.charts.specs.Meaning.{Meaning, Sound}
-use Rattle.charts.specs.RunsSound.{end_below}
+use Rattle.charts.specs.RangesSound.{end_below}
 use Rattle.charts.specs.Runs.{run_from}
 use Rattle.layers.specs.HeadStart.{head_start}
 

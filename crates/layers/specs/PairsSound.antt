@@ -1,5 +1,5 @@
 -- A chart of pairs owes what every chart owes, where its two parts keep their ranges.
-use Rattle.std.specs.Prelude.{ℕ, ◌+◌, ◌*◌, ◌/◌, ◌%◌, ◌<◌, ◌≤◌}
+use Rattle.std.specs.Prelude.{◌≡◌, ℕ, ◌+◌, ◌*◌, ◌/◌, ◌%◌, ◌<◌, ◌≤◌}
 use Rattle.std.proofs.Common.{arith}
 use Rattle.std.proofs.lemmas.Nat.{rows}
 use Rattle.std.proofs.lemmas.Bool.Decides.{nat_tests}
@@ -13,6 +13,13 @@ pub record Ranged (v : Pairs) : Type 0 where
   pub right_start_below : (h : ℕ) → 0 < v.rights h → v.right_start h < v.rights h
   pub left_step_below : (h s a : ℕ) → s < v.lefts h → a < 16 → v.left_step h s a < v.lefts h
   pub right_step_below : (h s r a : ℕ) → r < v.rights h → a < 16 → v.right_step h s r a < v.rights h
+
+-- A count above 0 is the number of all pairs.
+pub counted_whole : (n : ℕ) → 0 < counted n → (counted n ≡ n) × (n ≤ 1024)
+counted_whole n some = (grind (arith, nat_tests), grind (arith, nat_tests))
+
+pub factors : (a b : ℕ) → 0 < a * b → (0 < a) × (0 < b)
+factors a b some = (grind (arith, nat_tests, rows), grind (arith, nat_tests, rows))
 
 -- What a code below the count says of its two parts.
 pub record Parts (m n s : ℕ) : Type 0 where

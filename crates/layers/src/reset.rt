@@ -4,7 +4,7 @@ ghost use Rattle.layers.specs.Reset.{reset};
 ghost use Rattle.layers.specs.ResetLaw.{BeginsAnew};
 ghost use Rattle.layers.specs.ResetSound.{reset_sound};
 
-use charts::{Chart, SYMBOLS};
+use charts::{Chart, is_within};
 
 #[derive(Clone, Copy, Drop)]
 pub struct Reset<C> {
@@ -37,7 +37,7 @@ impl<C: Chart> Chart for Reset<C> {
     }
 
     fn step(&self, limit: u32, state: u32, symbol: u8) -> u32 {
-        if state >= self.below.count(limit) || symbol >= SYMBOLS {
+        if !is_within(self.below.count(limit), state, symbol) {
             return 0;
         }
         let from = if self.alarm(limit, state) {

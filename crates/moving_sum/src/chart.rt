@@ -2,7 +2,7 @@
 ghost use Rattle.moving_sum.specs.MovingSum.{moving_sum, AlarmsBySum};
 ghost use Rattle.moving_sum.specs.MovingSumSound.{moving_sum_sound};
 
-use charts::{Chart, SYMBOLS, is_valid};
+use charts::{Chart, is_valid, is_within};
 
 // How much the older of the two symbols adds to a state.
 const OLDER: u32 = 16;
@@ -36,7 +36,7 @@ impl Chart for MovingSum {
     }
 
     fn step(&self, limit: u32, state: u32, symbol: u8) -> u32 {
-        if state >= self.count(limit) || symbol >= SYMBOLS {
+        if !is_within(self.count(limit), state, symbol) {
             return 0;
         }
         state % OLDER * OLDER + u32::from(symbol)

@@ -1,2 +1,3 @@
 pub mod Bed
 pub mod Refused
+pub mod Workspace

@@ -1,6 +1,7 @@
 // The search for the design of a bed: its least fit limit, and the figures there.
 ghost use Rattle.std.specs.Prelude.{◌≡◌, true, ◌↔◌, MatchOption, MatchResult};
 ghost use Rattle.stoplimit.specs.Bed.{requirements, Designed};
+ghost use Rattle.stoplimit.specs.Workspace.{Lasts};
 ghost use Rattle.tables.specs.Fit.{Fit, Least, NoneFit};
 
 use crate::bed::Bed;
@@ -22,7 +23,8 @@ pub struct Designer<'a, C> {
 impl<C: Chart> Designer<'_, C> {
     // Whether the limit is fit.
     fn is_fit(&self, limit: u32, space: &mut Workspace<'_, Count>) -> bool
-        ensures { (result ≡ true) ↔ Fit (C.Chart.meaning self.now.chart.now) (requirements self.now.bed.now) limit }
+        ensures fit { (result ≡ true) ↔ Fit (C.Chart.meaning self.now.chart.now) (requirements self.now.bed.now) limit }
+        ensures rows { Lasts space.old space.new }
     {
         let Designer { chart, bed } = *self;
         if chart.count(limit) == 0 {
@@ -35,11 +37,17 @@ impl<C: Chart> Designer<'_, C> {
 
     // The least fit limit of the bed's range; none exactly when no limit of the range is fit.
     fn least_fit(&self, space: &mut Workspace<'_, Count>) -> Option<u32>
-        ensures { MatchOption result
+        ensures answer { MatchOption result
             (NoneFit (C.Chart.meaning self.now.chart.now) (requirements self.now.bed.now))
             (λ h. Least (C.Chart.meaning self.now.chart.now) (requirements self.now.bed.now) h) }
+        ensures rows { Lasts space.old space.new }
     {
-        (self.bed.lowest..=self.bed.highest).find(|limit| self.is_fit(*limit, space))
+        for limit in self.bed.lowest..=self.bed.highest {
+            if self.is_fit(limit, space) {
+                return Some(limit);
+            }
+        }
+        None
     }
 
     // The least fit limit of the bed's range with its figures; refused exactly when no limit is fit.

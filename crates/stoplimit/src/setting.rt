@@ -22,12 +22,14 @@ pub struct Setting<'a, C: Chart> {
 
 impl<C: Chart> Setting<'_, C> {
     ghost use Rattle.stoplimit.specs.Bed.{requirements, Figured};
+    ghost use Rattle.stoplimit.specs.Workspace.{Lasts};
     ghost use Rattle.tables.specs.Figures.{mildest as mildest_of};
 
     // The join over the stopped sequences of `courses` symbols.
     fn caught<S: Semiring>(&self, weights: &[S; 3], courses: u32, space: &mut Workspace<'_, S>) -> S
         requires { courses ≤ 40 }
-        ensures { let m = C.Chart.meaning self.now.chart.now in let h = self.now.limit in result ≡ caught_from S.Semiring.kind m.moves h (m.moves.start h) weights.now courses }
+        ensures value { let m = C.Chart.meaning self.now.chart.now in let h = self.now.limit in result ≡ caught_from S.Semiring.kind m.moves h (m.moves.start h) weights.now courses }
+        ensures rows { Lasts space.old space.new }
     {
         match tabulate(self.chart, self.limit, weights, courses, &mut space.rows) {
             Ok(table) => table.caught,
@@ -40,6 +42,7 @@ impl<C: Chart> Setting<'_, C> {
     pub(crate) fn share(&self, batch: &Batch, space: &mut Workspace<'_, Count>) -> Share
         ensures stopped { let m = C.Chart.meaning self.now.chart.now in let h = self.now.limit in result.stopped ≡ caught_from naturals m.moves h (m.moves.start h) batch.now.weights batch.now.courses }
         ensures all { result.all ≡ sum batch.now.weights ^ batch.now.courses }
+        ensures rows { Lasts space.old space.new }
     {
         let stopped = self.caught(&batch.counts(), batch.courses, space);
         Share {
@@ -63,7 +66,8 @@ impl<C: Chart> Setting<'_, C> {
     // The figures of a bed.
     #[tactic(auto, unfolding(tables::specs::Figures::good_caught, tables::specs::Figures::off_caught))]
     pub(crate) fn figures(&self, bed: &Bed, space: &mut Workspace<'_, Count>) -> Design
-        ensures { Figured (C.Chart.meaning self.now.chart.now) (requirements bed.now) self.now.limit result }
+        ensures value { Figured (C.Chart.meaning self.now.chart.now) (requirements bed.now) self.now.limit result }
+        ensures rows { Lasts space.old space.new }
     {
         Design {
             limit: self.limit,

@@ -16,14 +16,20 @@ sided_even n x y e = cond-true (eqb (n % 2) 0) x y (eq-eqb (n % 2) 0 e)
 pub sided_odd : {X : Type 0} (n : ℕ) (x y : X) → (n % 2 ≡ 0 → ⊥) → sided n x y ≡ y
 sided_odd n x y ne = cond-false (eqb (n % 2) 0) x y (ne_eqb (n % 2) 0 ne)
 
--- A chart starts below its count n, and its steps by the first i symbols stay there.
-pub starts_by : (m : Meaning) → Sound m → (h n : ℕ) → n ≡ m.count h → 0 < n → m.moves.start h < n
-starts_by m o h n is some = omega (arith, is, o.start_below h (omega (arith, is)))
+-- A chart v at a limit where it has n states, with the weights of at most 16 symbols.
+module _ {S : Type 0} (k : Algebra S) (l : Laws k) (v : Meaning) (o : Sound v) (h : ℕ) (w : List S) (n : ℕ) (is : n ≡ v.count h) (some : 0 < n) (few : length w ≤ 16) where
+  abbrev m : Moves
+  m = v.moves
 
-pub below_by : (m : Meaning) → Sound m → (h n i : ℕ) → n ≡ m.count h → i ≤ 16 → (s a : ℕ) → s < n → a < i → m.moves.step h s a < n
-below_by m o h n i is few s a b e = subst (λ z. m.moves.step h s a < z) (sym is) (o.step_below h s a (subst (λ z. s < z) is b) (omega arith))
+  abbrev start : ℕ
+  start = v.moves.start h
 
-module _ {S : Type 0} (k : Algebra S) (l : Laws k) (m : Moves) (h start : ℕ) (w : List S) (n : ℕ) (below : start < n) (stays : (s a : ℕ) → s < n → a < length w → m.step h s a < n) where
+  below : start < n
+  below = omega (arith, is, o.start_below h (omega (arith, is)))
+
+  stays : (s a : ℕ) → s < n → a < length w → m.step h s a < n
+  stays s a b e = subst (λ z. m.step h s a < z) (sym is) (o.step_below h s a (subst (λ z. s < z) is b) (omega arith))
+
   -- What `from` holds after i courses makes the table and the caught value of one more.
   module _ (i : ℕ) (from : List S) (filled : (s : ℕ) → s < n → get_or from s k.zero ≡ table_at k m h start w i s) where
     next_table : (t : ℕ) → join_below k (λ s. into k m h w t s (get_or from s k.zero)) n ≡ table_at k m h start w (i + 1) t

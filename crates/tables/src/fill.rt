@@ -15,9 +15,9 @@ fn clear<S: Semiring>(row: &mut [S])
     }
 }
 
-// A row is a lent slice: its length is no part of its type, so each function asks that it has a cell for
-// each state. The row and the caught value are two parameters: in one struct behind `&mut`, each contract
-// would have to say too that the slice stays the same.
+// The methods of a row pass on the slice that was lent, of whatever length, so each function asks that it
+// has a cell for each state. The row and the caught value are two parameters: in one struct behind `&mut`,
+// each contract would have to say too that the slice stays the same.
 impl<C: Chart, S: Semiring> Chain<'_, C, S> {
     // Joins `share` to the state after `symbol`, or to `caught` where that state alarms.
     fn place(&self, state: u32, symbol: u8, share: S, row: &mut [S], caught: S) -> S

@@ -19,6 +19,9 @@ cost_same x y e = λ i. record { value = e i; fits = is_prop→PathP (λ k. e k 
 pub count_mod : (n m : ℕ) → n % 2 ^ 64 ≡ m % 2 ^ 64 → count n ≡ count m
 count_mod n m e = count_same (count n) (count m) e
 
+pub product_comm : (x y : Count) → counts.product x y ≡ counts.product y x
+product_comm x y = search rules
+
 pub count_laws : Laws counts
 count_laws = record {
   join_assoc = λ x y z. count_same _ _ (omega arith);

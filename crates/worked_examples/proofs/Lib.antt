@@ -1,1 +1,2 @@
+mod ClaimTests
 mod FitTests

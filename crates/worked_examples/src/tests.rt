@@ -234,23 +234,24 @@ fn zone_rules(rt: HostRuntime) -> Result<(), Fail> {
     Ok(())
 }
 
-// The number of the refusal of a zone rule, where there is one.
-fn zone_refusal(hits: u8, window: u8, edge: Edge) -> Option<u32> {
-    let refusal = ZoneParameters::new(hits, window, edge).err()?;
-    Some(refusal.number())
+// The number of the refusal of a zone rule, and 0 where there is none.
+fn zone_refusal(hits: u8, window: u8, edge: Edge) -> u32 {
+    ZoneParameters::new(hits, window, edge)
+        .err()
+        .map_or(0, |refusal| refusal.number())
 }
 
 #[test]
 fn zone_parameters_out_of_range(rt: HostRuntime) {
-    assert_eq!(rt; zone_refusal(0, 9, Edge::At(17)), Some(23));
-    assert_eq!(rt; zone_refusal(9, 9, Edge::Limit), Some(23));
-    assert_eq!(rt; zone_refusal(2, 0, Edge::Limit), Some(23));
-    assert_eq!(rt; zone_refusal(2, 9, Edge::Limit), Some(23));
-    assert_eq!(rt; zone_refusal(3, 2, Edge::At(17)), Some(27));
-    assert_eq!(rt; zone_refusal(2, 2, Edge::At(17)), Some(23));
-    assert_eq!(rt; zone_refusal(2, 2, Edge::At(16)), None);
-    assert_eq!(rt; zone_refusal(8, 8, Edge::Limit), None);
-    assert_eq!(rt; zone_refusal(1, 1, Edge::At(0)), None);
+    assert_eq!(rt; zone_refusal(0, 9, Edge::At(17)), 23);
+    assert_eq!(rt; zone_refusal(9, 9, Edge::Limit), 23);
+    assert_eq!(rt; zone_refusal(2, 0, Edge::Limit), 23);
+    assert_eq!(rt; zone_refusal(2, 9, Edge::Limit), 23);
+    assert_eq!(rt; zone_refusal(3, 2, Edge::At(17)), 27);
+    assert_eq!(rt; zone_refusal(2, 2, Edge::At(17)), 23);
+    assert_eq!(rt; zone_refusal(2, 2, Edge::At(16)), 0);
+    assert_eq!(rt; zone_refusal(8, 8, Edge::Limit), 0);
+    assert_eq!(rt; zone_refusal(1, 1, Edge::At(0)), 0);
 }
 
 #[test]
