@@ -5,9 +5,9 @@ use std::fmt;
 #[derive(Clone, Copy)]
 pub struct Design {
     pub limit: u32,
-    // how many of the good sequences are stopped
+    // the share of the good sequences that is stopped, by weight
     pub good: Share,
-    // how many of the off sequences are stopped
+    // the share of the off sequences that is stopped, by weight
     pub off: Share,
     // the least cost of a stopped off sequence
     pub mildest: Option<u64>,

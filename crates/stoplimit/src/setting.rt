@@ -37,7 +37,7 @@ impl<C: Chart> Setting<'_, C> {
         }
     }
 
-    // How many sequences of a batch are stopped.
+    // The weight of the stopped sequences of a batch, and of all.
     #[tactic(auto, using(crate::proofs::Truth::true_value, crate::proofs::Truth::true_bound))]
     pub(crate) fn share(&self, batch: &Batch, space: &mut Workspace<'_, Count>) -> Share
         ensures stopped { let m = C.Chart.meaning self.now.chart.now in let h = self.now.limit in result.stopped ≡ caught_from naturals m.moves h (m.moves.start h) batch.now.weights batch.now.courses }

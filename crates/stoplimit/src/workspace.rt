@@ -8,7 +8,7 @@ use weights::Semiring;
 // Rows with a cell for each state that a chart can have.
 #[derive(Drop)]
 pub struct Workspace<'a, S: Semiring> {
-    pub rows: Rows<'a, S>,
+    pub rows: Rows<'a, 'a, S>,
     ghost first_room: { 1024 ≤ length (held rows.first) },
     ghost second_room: { 1024 ≤ length (held rows.second) },
 }

@@ -11,7 +11,7 @@ use weights::Semiring;
 
 impl<C: Chart, S: Semiring> Chain<'_, C, S> {
     // One course more after `done` courses, from the row of one side into the other.
-    fn course(&self, done: u32, rows: &mut Rows<'_, S>, caught: S) -> S
+    fn course(&self, done: u32, rows: &mut Rows<'_, '_, S>, caught: S) -> S
         requires room { (self.now.count ≤ length (held rows.old.first)) × (self.now.count ≤ length (held rows.old.second)) }
         requires rolled { Rolled S.Semiring.kind (C.Chart.meaning self.now.chart.now).moves self.now.limit ((C.Chart.meaning self.now.chart.now).moves.start self.now.limit) self.now.count self.now.weights.now done (held rows.old.first) (held rows.old.second) (held rows.old.first) (held rows.old.second) caught }
         ensures rolled { Rolled S.Semiring.kind (C.Chart.meaning self.now.chart.now).moves self.now.limit ((C.Chart.meaning self.now.chart.now).moves.start self.now.limit) self.now.count self.now.weights.now (done + 1) (held rows.old.first) (held rows.old.second) (held rows.new.first) (held rows.new.second) result }
@@ -25,7 +25,7 @@ impl<C: Chart, S: Semiring> Chain<'_, C, S> {
 
     // The table of `courses` courses, and its caught value.
     #[tactic(auto, using(crate::proofs::RollCourses::roll_all))]
-    pub(crate) fn roll(&self, courses: u32, rows: &mut Rows<'_, S>) -> S
+    pub(crate) fn roll(&self, courses: u32, rows: &mut Rows<'_, '_, S>) -> S
         requires room { (self.now.count ≤ length (held rows.old.first)) × (self.now.count ≤ length (held rows.old.second)) }
         ensures rolled { Rolled S.Semiring.kind (C.Chart.meaning self.now.chart.now).moves self.now.limit ((C.Chart.meaning self.now.chart.now).moves.start self.now.limit) self.now.count self.now.weights.now courses (held rows.old.first) (held rows.old.second) (held rows.new.first) (held rows.new.second) result }
         ensures lasting { Lasting rows.old.first rows.new.first × Lasting rows.old.second rows.new.second }

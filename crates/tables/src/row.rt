@@ -58,14 +58,14 @@ impl<'a, S: Semiring> Row<'a, S> {
 
 // The two rows that a table is rolled between.
 #[derive(Drop)]
-pub struct Rows<'a, S: Semiring> {
+pub struct Rows<'a, 'b, S: Semiring> {
     pub first: Row<'a, S>,
-    pub second: Row<'a, S>,
+    pub second: Row<'b, S>,
 }
 
-impl<'a, S: Semiring> Rows<'a, S> {
+impl<'a, 'b, S: Semiring> Rows<'a, 'b, S> {
     // Rows over these cells.
-    pub fn new(first: &'a mut [S], second: &'a mut [S]) -> Rows<'a, S>
+    pub fn new(first: &'a mut [S], second: &'b mut [S]) -> Rows<'a, 'b, S>
         ensures first { held result.first ≡ first.old }
         ensures second { held result.second ≡ second.old }
         ensures first_named { result.first.cells.ghost_name ≡ first.entry.ghost_name }

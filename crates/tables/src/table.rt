@@ -39,7 +39,7 @@ pub fn tabulate<C: Chart, S: Semiring>(
     limit: u32,
     weights: &[S],
     courses: u32,
-    rows: &mut Rows<'_, S>,
+    rows: &mut Rows<'_, '_, S>,
 ) -> Result<Table<S>, Refusal>
     ensures answer { Checked number
         (table_checks (length weights.now) courses (length (held rows.old.first)) (length (held rows.old.second)) ((C.Chart.meaning chart.now).count limit))
