@@ -43,7 +43,13 @@ impl Chart for Cusum {
             return 0;
         }
         let score = self.scores.values[usize::from(symbol)];
-        limit.min(state.saturating_add_signed(i32::from(score)))
+        let sum = state as i32 + i32::from(score);
+        // a branch: a table by `max`, `clamp` or `saturating_add_signed` is slower
+        if sum.is_negative() {
+            0
+        } else {
+            limit.min(sum.unsigned_abs())
+        }
     }
 
     fn alarm(&self, limit: u32, state: u32) -> bool {

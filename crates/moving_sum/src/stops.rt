@@ -19,6 +19,7 @@ pub(crate) fn stopped_weight<C: Chart>(chart: &C, limit: u32) -> Result<u64, Ref
     let mut first = [Count { value: 0 }; ROW_CELLS];
     let mut second = [Count { value: 0 }; ROW_CELLS];
     let mut rows = Rows::new(&mut first, &mut second);
-    let table = tabulate(chart, limit, &WEIGHTS, COURSES, &mut rows)?;
+    let Rows { first, second } = &mut rows;
+    let table = tabulate(chart, limit, &WEIGHTS, COURSES, first, second)?;
     Ok(table.caught.value)
 }

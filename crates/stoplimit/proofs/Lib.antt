@@ -1,1 +1,3 @@
+pub mod CostWeights
+pub mod Lastings
 pub mod Truth

@@ -9,7 +9,7 @@ use crate::design::Design;
 use crate::share::Share;
 use crate::workspace::Workspace;
 use charts::Chart;
-use tables::{ROW_CELLS, tabulate};
+use tables::{ROW_CELLS, Rows, tabulate};
 use weights::{Cost, Count, Semiring};
 
 // A chart, and a limit where it has states.
@@ -31,7 +31,8 @@ impl<C: Chart> Setting<'_, C> {
         ensures value { let m = C.Chart.meaning self.now.chart.now in let h = self.now.limit in result ≡ caught_from S.Semiring.kind m.moves h (m.moves.start h) weights.now courses }
         ensures rows { Lasts space.old space.new }
     {
-        match tabulate(self.chart, self.limit, weights, courses, &mut space.rows) {
+        let Rows { first, second } = &mut space.rows;
+        match tabulate(self.chart, self.limit, weights, courses, first, second) {
             Ok(table) => table.caught,
             Err(_) => unreachable!(),
         }

@@ -4,10 +4,11 @@ ghost use Rattle.tables.specs.declared.refusal.Refusal.TheVariants.{NoStates};
 
 use crate::refusal::Refusal;
 use charts::Chart;
+use std::alloc::AllocError;
 use weights::Semiring;
 
-// A chart at a limit where it has states, and a weight for each of its first symbols, at most 16.
-#[derive(Drop)]
+// A chart at a limit where it has states, and a weight for each of its first symbols, at most 16. It is
+// passed by value, so that nothing of it has to be read again after a cell of a row was written.
 pub(crate) struct Chain<'a, C: Chart, S: Semiring> {
     pub(crate) chart: &'a C,
     pub(crate) limit: u32,
@@ -18,6 +19,18 @@ pub(crate) struct Chain<'a, C: Chart, S: Semiring> {
     ghost some: { 0 < count },
     ghost few: { length weights.now ≤ 16 },
 }
+
+impl<C: Chart, S: Semiring> Clone for Chain<'_, C, S> {
+    ghost is_clone = { λ x y. y ≡ x };
+
+    ghost is_infallible = { λ _. Unit {0} };
+
+    fn clone(&self) -> Result<Self, AllocError> {
+        Ok(*self)
+    }
+}
+
+impl<C: Chart, S: Semiring> Copy for Chain<'_, C, S> {}
 
 impl<'a, C: Chart, S: Semiring> Chain<'a, C, S> {
     // Refuses a chart without states at the limit.
@@ -44,9 +57,9 @@ impl<'a, C: Chart, S: Semiring> Chain<'a, C, S> {
     }
 
     // The start state.
-    pub(crate) fn start(&self) -> u32
-        ensures is { result ≡ (C.Chart.meaning self.now.chart.now).moves.start self.now.limit }
-        ensures below { result < self.now.count }
+    pub(crate) fn start(self) -> u32
+        ensures is { result ≡ (C.Chart.meaning self.entry.chart.now).moves.start self.entry.limit }
+        ensures below { result < self.entry.count }
     {
         self.chart.start(self.limit)
     }

@@ -29,10 +29,10 @@ impl<'a, S: Semiring> Row<'a, S> {
     }
 
     // The table of no course: one at the start state, zero elsewhere.
-    pub(crate) fn start_at<C: Chart>(&mut self, chain: &Chain<'_, C, S>)
-        requires { chain.now.count ≤ length (held self.old) }
-        ensures cells { (t : ℕ) → t < chain.now.count → slice_index_or (held self.new) t S.Semiring.kind.zero ≡ guarded S.Semiring.kind ((C.Chart.meaning chain.now.chart.now).moves.start chain.now.limit == t) S.Semiring.kind.one }
-        ensures past { drop chain.now.count (held self.new) ≡ drop chain.now.count (held self.old) }
+    pub(crate) fn start_at<C: Chart>(&mut self, chain: Chain<'_, C, S>)
+        requires { chain.count ≤ length (held self.old) }
+        ensures cells { (t : ℕ) → t < chain.entry.count → slice_index_or (held self.new) t S.Semiring.kind.zero ≡ guarded S.Semiring.kind ((C.Chart.meaning chain.entry.chart.now).moves.start chain.entry.limit == t) S.Semiring.kind.one }
+        ensures past { drop chain.entry.count (held self.new) ≡ drop chain.entry.count (held self.old) }
         ensures lasting { Lasting self.old self.new }
     {
         chain.begin(self.cells);
@@ -41,15 +41,15 @@ impl<'a, S: Semiring> Row<'a, S> {
     // One course more than `from` has; answers the caught value.
     pub(crate) fn fill_from<C: Chart>(
         &mut self,
-        chain: &Chain<'_, C, S>,
+        chain: Chain<'_, C, S>,
         from: &Row<'_, S>,
         caught: S,
     ) -> S
-        requires source { chain.now.count ≤ length (held from.now) }
-        requires room { chain.now.count ≤ length (held self.old) }
-        ensures cells { (t : ℕ) → t < chain.now.count → slice_index_or (held self.new) t S.Semiring.kind.zero ≡ join_below S.Semiring.kind (λ s. into S.Semiring.kind (C.Chart.meaning chain.now.chart.now).moves chain.now.limit chain.now.weights.now t s (slice_index_or (held from.now) s S.Semiring.kind.zero)) chain.now.count }
-        ensures past { drop chain.now.count (held self.new) ≡ drop chain.now.count (held self.old) }
-        ensures alarm { result ≡ S.Semiring.kind.join (passed_on S.Semiring.kind chain.now.weights.now caught) (join_below S.Semiring.kind (λ s. alarming S.Semiring.kind (C.Chart.meaning chain.now.chart.now).moves chain.now.limit chain.now.weights.now s (slice_index_or (held from.now) s S.Semiring.kind.zero)) chain.now.count) }
+        requires source { chain.count ≤ length (held from.now) }
+        requires room { chain.count ≤ length (held self.old) }
+        ensures cells { (t : ℕ) → t < chain.entry.count → slice_index_or (held self.new) t S.Semiring.kind.zero ≡ join_below S.Semiring.kind (λ s. into S.Semiring.kind (C.Chart.meaning chain.entry.chart.now).moves chain.entry.limit chain.entry.weights.now t s (slice_index_or (held from.now) s S.Semiring.kind.zero)) chain.entry.count }
+        ensures past { drop chain.entry.count (held self.new) ≡ drop chain.entry.count (held self.old) }
+        ensures alarm { result ≡ S.Semiring.kind.join (passed_on S.Semiring.kind chain.entry.weights.now caught) (join_below S.Semiring.kind (λ s. alarming S.Semiring.kind (C.Chart.meaning chain.entry.chart.now).moves chain.entry.limit chain.entry.weights.now s (slice_index_or (held from.now) s S.Semiring.kind.zero)) chain.entry.count) }
         ensures lasting { Lasting self.old self.new }
     {
         chain.advance(from.cells, self.cells, caught)

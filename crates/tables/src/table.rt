@@ -10,7 +10,7 @@ ghost use Rattle.tables.specs.Sequences.{Listed};
 
 use crate::chain::Chain;
 use crate::refusal::Refusal;
-use crate::row::Rows;
+use crate::row::Row;
 use crate::side::Side;
 use charts::{Chart, MAX_STATES, SYMBOLS};
 use weights::Semiring;
@@ -39,26 +39,27 @@ pub fn tabulate<C: Chart, S: Semiring>(
     limit: u32,
     weights: &[S],
     courses: u32,
-    rows: &mut Rows<'_, '_, S>,
+    first: &mut Row<'_, S>,
+    second: &mut Row<'_, S>,
 ) -> Result<Table<S>, Refusal>
     ensures answer { Checked number
-        (table_checks (length weights.now) courses (length (held rows.old.first)) (length (held rows.old.second)) ((C.Chart.meaning chart.now).count limit))
-        ((held rows.new.first ≡ held rows.old.first) × (held rows.new.second ≡ held rows.old.second))
-        (λ t. Tabled S.Semiring.kind (C.Chart.meaning chart.now) limit weights.now courses (held rows.old.first) (held rows.old.second) (held rows.new.first) (held rows.new.second) t.caught t.count (side_number t.side))
+        (table_checks (length weights.now) courses (length (held first.old)) (length (held second.old)) ((C.Chart.meaning chart.now).count limit))
+        ((held first.new ≡ held first.old) × (held second.new ≡ held second.old))
+        (λ t. Tabled S.Semiring.kind (C.Chart.meaning chart.now) limit weights.now courses (held first.old) (held second.old) (held first.new) (held second.new) t.caught t.count (side_number t.side))
         result }
-    ensures first_named { rows.new.first.cells.ghost_name ≡ rows.old.first.cells.ghost_name }
-    ensures second_named { rows.new.second.cells.ghost_name ≡ rows.old.second.cells.ghost_name }
+    ensures first_named { first.new.cells.ghost_name ≡ first.old.cells.ghost_name }
+    ensures second_named { second.new.cells.ghost_name ≡ second.old.cells.ghost_name }
     ensures listed { Listed (length weights.now) courses }
     ensures exact { (s : ℕ) → Exact (C.Chart.meaning chart.now).moves limit s courses }
 {
     if weights.is_empty() || weights.len() > MAX_WEIGHTS || courses > MAX_COURSES {
         return Err(Refusal::OutOfBounds);
     }
-    if rows.first.len() < ROW_CELLS || rows.second.len() < ROW_CELLS {
+    if first.len() < ROW_CELLS || second.len() < ROW_CELLS {
         return Err(Refusal::ShortRow);
     }
     let chain = Chain::new(chart, limit, weights)?;
-    let caught = chain.roll(courses, rows);
+    let caught = chain.roll(courses, first, second);
     Ok(Table {
         caught,
         count: chain.count,

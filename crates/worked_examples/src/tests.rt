@@ -6,7 +6,7 @@ ghost use Rattle.std.specs.Mem.{type_size};
 use charts::{Chart, Cusum, Edge, Scores, Zone, ZoneParameters};
 use layers::{Confirm, HeadStart, Lead, Repeats, Reset, Union};
 use std::test::Fail;
-use tables::{ROW_CELLS, Refusal, Rows, table_part, tabulate};
+use tables::{ROW_CELLS, Refusal, Row, Rows, Table, table_part, tabulate};
 use weights::{Can, Cost, Count, Semiring};
 
 // What is expected at a limit: the weight of the stopped good sequences and of the stopped off ones,
@@ -54,6 +54,18 @@ fn cusum() -> Result<Cusum, charts::Refusal> {
     Ok(Cusum::new(Scores::new(values)?))
 }
 
+// The table over rows that are lent, as a caller has them who does not own them.
+fn tabulate_lent<C: Chart, S: Semiring>(
+    chart: &C,
+    limit: u32,
+    weights: &[S],
+    courses: u32,
+    first: &mut Row<'_, S>,
+    second: &mut Row<'_, S>,
+) -> Result<Table<S>, Refusal> {
+    tabulate(chart, limit, weights, courses, first, second)
+}
+
 // The caught value, and the join of all that the table holds.
 fn count<C: Chart, S: Semiring>(
     chart: &C,
@@ -64,7 +76,11 @@ fn count<C: Chart, S: Semiring>(
     second: &mut [S],
 ) -> Result<(S, S), Refusal> {
     let mut rows = Rows::new(first, second);
-    let table = tabulate(chart, limit, weights, courses, &mut rows)?;
+    let Rows {
+        first: front,
+        second: back,
+    } = &mut rows;
+    let table = tabulate_lent(chart, limit, weights, courses, front, back)?;
     let cells = table_part(first, second, table.side.into(), table.count);
     let unstopped = cells.iter().fold(S::zero(), |all, cell| all.join(*cell));
     Ok((table.caught, unstopped))

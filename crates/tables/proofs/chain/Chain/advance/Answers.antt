@@ -10,10 +10,10 @@ pub loop-state-preserved : goal.loop-state-preserved
 loop-state-preserved g c =
     let k = g.S.Semiring.kind in
     let l = g.met.S.Semiring.laws in
-    let m = (g.C.Chart.meaning c.args.self.now.chart.now).moves in
-    let h = c.args.self.now.limit in
-    let w = c.args.self.now.weights.now in
-    let n = c.args.self.now.count in
+    let m = (g.C.Chart.meaning c.args.self.chart.now).moves in
+    let h = c.args.self.limit in
+    let w = c.args.self.weights.now in
+    let n = c.args.self.count in
     let from = c.args.from.now in
     let s = c.loop-state.state in
     let v = c.value-item.result in
@@ -36,9 +36,9 @@ loop-state-preserved g c =
 pub returns-clause-cells : goal.returns-clause-cells
 returns-clause-cells g c t b =
     let k = g.S.Semiring.kind in
-    let m = (g.C.Chart.meaning c.args.self.now.chart.now).moves in
-    let n = c.args.self.now.count in
+    let m = (g.C.Chart.meaning c.args.self.chart.now).moves in
+    let n = c.args.self.count in
     let from = c.args.from.now in
     let long : length c.clear.new.row ≡ n = c.clear.auto.row ∙ length-take-le n c.args.row.now c.requires.room in
-    filled k g.met.S.Semiring.laws (λ t s. into k m c.args.self.now.limit c.args.self.now.weights.now t s (get_or from s k.zero))
+    filled k g.met.S.Semiring.laws (λ t s. into k m c.args.self.limit c.args.self.weights.now t s (get_or from s k.zero))
     c.loop-state.state n c.clear.new.row c.loop-state.row _ (omega (arith, length-take-le n from c.requires.source)) (c.loop-state.auto.row ∙ long) c.loop-state.invariant.0 t b (c.clear.ensures t (omega (arith, long)))

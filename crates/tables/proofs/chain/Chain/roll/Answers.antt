@@ -5,9 +5,9 @@ use Rattle.tables.proofs.chain.Chain.roll.Goals as goal
 
 pub loop-done-init : goal.loop-done-init
 loop-done-init g c =
-    let m = (g.C.Chart.meaning c.args.self.now.chart.now).moves in (
-      roll_none g.S.Semiring.kind g.met.S.Semiring.laws m c.args.self.now.limit (m.start c.args.self.now.limit) c.args.self.now.count c.args.self.now.weights.now
-          (held c.start_at.new.self) (held c.args.rows.now.second) c.zero-caught.result c.start_at.ensures.cells c.zero-caught.ensures,
+    let m = (g.C.Chart.meaning c.args.self.chart.now).moves in (
+      roll_none g.S.Semiring.kind g.met.S.Semiring.laws m c.args.self.limit (m.start c.args.self.limit) c.args.self.count c.args.self.weights.now
+          (held c.start_at.new.self) (held c.args.second.now) c.zero-caught.result c.start_at.ensures.cells c.zero-caught.ensures,
       record { as_long = refl; named = refl },
       record { as_long = refl; named = refl },
     )

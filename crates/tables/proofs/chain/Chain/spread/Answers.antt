@@ -9,9 +9,9 @@ pub loop-symbol-preserved : goal.loop-symbol-preserved
 loop-symbol-preserved g c =
     let k = g.S.Semiring.kind in
     let l = g.met.S.Semiring.laws in
-    let m = (g.C.Chart.meaning c.args.self.now.chart.now).moves in
-    let h = c.args.self.now.limit in
-    let w = c.args.self.now.weights.now in
+    let m = (g.C.Chart.meaning c.args.self.chart.now).moves in
+    let h = c.args.self.limit in
+    let w = c.args.self.weights.now in
     let s = c.args.state in
     let x = c.args.value in
     let a = c.loop-symbol.symbol in
