@@ -67,6 +67,7 @@ impl<C: Chart, S: Semiring> Chain<'_, C, S> {
 
     // One course more: fills the first cells of `row`, one for each state, from those of `from`, and
     // answers the caught value. A state of weight zero gives nothing and is passed over.
+    #[inline(always)]
     pub(crate) fn advance(self, from: &[S], row: &mut [S], caught: S) -> S
         requires source { self.count ≤ length from.now }
         requires room { self.count ≤ length row.old }

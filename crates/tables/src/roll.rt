@@ -11,6 +11,7 @@ use weights::Semiring;
 
 impl<C: Chart, S: Semiring> Chain<'_, C, S> {
     // One course more after `done` courses, from the row of one side into the other.
+    #[inline(always)]
     fn course(self, done: u32, first: &mut Row<'_, S>, second: &mut Row<'_, S>, caught: S) -> S
         requires room { (self.count ≤ length (held first.old)) × (self.count ≤ length (held second.old)) }
         requires rolled { Rolled S.Semiring.kind (C.Chart.meaning self.chart.now).moves self.limit ((C.Chart.meaning self.chart.now).moves.start self.limit) self.count self.weights.now done (held first.old) (held second.old) (held first.old) (held second.old) caught }
@@ -25,6 +26,7 @@ impl<C: Chart, S: Semiring> Chain<'_, C, S> {
 
     // The table of `courses` courses, and its caught value.
     #[tactic(auto, using(crate::proofs::RollCourses::roll_all))]
+    #[inline(always)]
     pub(crate) fn roll(self, courses: u32, first: &mut Row<'_, S>, second: &mut Row<'_, S>) -> S
         requires room { (self.count ≤ length (held first.old)) × (self.count ≤ length (held second.old)) }
         ensures rolled { Rolled S.Semiring.kind (C.Chart.meaning self.entry.chart.now).moves self.entry.limit ((C.Chart.meaning self.entry.chart.now).moves.start self.entry.limit) self.entry.count self.entry.weights.now courses (held first.old) (held second.old) (held first.new) (held second.new) result }

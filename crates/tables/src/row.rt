@@ -39,6 +39,7 @@ impl<'a, S: Semiring> Row<'a, S> {
     }
 
     // One course more than `from` has; answers the caught value.
+    #[inline(always)]
     pub(crate) fn fill_from<C: Chart>(
         &mut self,
         chain: Chain<'_, C, S>,

@@ -32,8 +32,10 @@ pub struct Table<S: Semiring> {
 }
 
 // The table of `courses` courses from the chart's start at the limit: for each state, the join over
-// all sequences that end there unstopped. A refusal changes no row.
+// all sequences that end there unstopped. A refusal changes no row. The call and its courses are put into the
+// caller, so that what is the same at each course, or known there, is worked out once.
 #[tactic(auto, using(crate::proofs::SequencesListed::listed, crate::proofs::ExactCounts::exact))]
+#[inline(always)]
 pub fn tabulate<C: Chart, S: Semiring>(
     chart: &C,
     limit: u32,
